@@ -1,0 +1,62 @@
+-- Demand 3 in two statements. `only-when` (Proofs/OnlyWhen) and `exactly-when` (Proofs/ExactlyWhen) prove them.
+-- A list of calls is of any length, each call any four bytes, accepted or refused. It starts from the fresh facility of the set-up `s`.
+use Prim.Native.Nat.{ℕ, _<_}
+use mathlib.Core.Path.{_≡_}
+use mathlib.Core.Logic.{_≢_, _↔_}
+use mathlib.Core.Bool.{Bool, true, false}
+use mathlib.Core.List.{List, [], _∷_}
+use lib.Dec.{ltb}
+use Rattle.rules.specs.Types.{Call}
+use Rattle.state.specs.Tests.{_and_, on}
+use Rattle.state.specs.State.{objectOf, isUser, trustedUser, labelOf, clearanceOf}
+use Rattle.state.specs.Labels.{Label, given, _⊑_}
+use Rattle.rules.specs.Calls.{run, trustedLogins}
+use Rattle.rules.specs.Setup.{fresh}
+use Rattle.rules.specs.Matter.{holds}
+
+-- Object b's label may hold the matter of a's: both are set, and b's is at least a's.
+pub record Above (b a : Label) : Type 0 where
+  pub own : given b ≡ true
+  pub other : given a ≡ true
+  pub above : a ⊑ b
+
+-- First half: for every set-up with MAC on, FC and SIM on or off, and every list without a trusted login, b holds the matter of
+-- another object a only when its level, after the list, is at least a's. Created and deleted objects are included.
+-- (A refused set-up has MAC off, so `s` is an accepted one.)
+abbrev pub OnlyWhen : Type 0
+OnlyWhen =
+    (s : List ℕ) → on (fresh s .mac) ≡ true
+    → (cs : List Call) → trustedLogins (fresh s) cs ≡ false
+    → (a b : ℕ) → holds s cs b a ≡ true → b ≢ a
+    → Above (labelOf (run (fresh s) cs) b) (labelOf (run (fresh s) cs) a)
+
+-- A call is four bytes.
+abbrev pub fourBytes : Call → Bool
+fourBytes c = ltb (c .request) 256 and ltb (c .process) 256 and ltb (c .target) 256 and ltb (c .extra) 256
+
+unfoldable pub allFourBytes : List Call → Bool
+allFourBytes [] = true
+allFourBytes (c ∷ cs) = fourBytes c and allFourBytes cs
+
+-- A list without a trusted login after which b holds the matter of a.
+pub record Carries (s : List ℕ) (a b : ℕ) : Type 0 where
+  pub calls : List Call
+  pub four : allFourBytes calls ≡ true
+  pub untrusted : trustedLogins (fresh s) calls ≡ false
+  pub holding : holds s calls b a ≡ true
+
+-- User u is untrusted and cleared for a and b: the level of each is set and at most u's clearance.
+pub record Cleared (s : List ℕ) (u a b : ℕ) : Type 0 where
+  pub user : isUser (fresh s) u ≡ true
+  pub untrusted : trustedUser (fresh s) u ≡ false
+  pub first : labelOf (fresh s) a ⊑ clearanceOf (fresh s) u
+  pub second : labelOf (fresh s) b ⊑ clearanceOf (fresh s) u
+
+-- Second half: for every set-up with MAC on alone, objects a and b of it, a no channel, and an untrusted user cleared for both,
+-- there is a list by which b comes to hold the matter of a exactly when b's level is at least a's.
+abbrev pub ExactlyWhen : Type 0
+ExactlyWhen =
+    (s : List ℕ) → on (fresh s .mac) ≡ true → on (fresh s .fc) ≡ false → on (fresh s .sim) ≡ false
+    → (a b : ℕ) → a < fresh s .entered → b < fresh s .entered → (objectOf (fresh s) a) .kind ≢ 2
+    → (u : ℕ) → Cleared s u a b
+    → Carries s a b ↔ (labelOf (fresh s) a ⊑ labelOf (fresh s) b)

@@ -1,0 +1,150 @@
+-- "What the modules answer": MAC, FC and SIM on what a call looks at, and MAC's moves of the caller.
+pub use Rattle.rules.specs.declared.View.{View}
+use Prim.Native.Nat.{ℕ}
+use mathlib.Core.Bool.{Bool, not, cond}
+use lib.Dec.{eqb}
+use Rattle.rules.specs.Types.{Answer, NotCared, Granted, NotGranted, Undefined, Answers, Call, Process, User, Object, Facility}
+use Rattle.state.specs.Tests.{_and_, _or_, on}
+use Rattle.state.specs.State.{processOf, objectOf, userOf, isAutomatic, opensOf}
+use Rattle.state.specs.Labels.{Label, label, leq, same, join, meet, given}
+use Rattle.state.specs.Answers.{combined3, grant}
+use Rattle.rules.specs.Requests.{Request, Login, Clone, SendSignal, SetLevel, Terminate, Create, OnObject, Class, Absent, Reads, Writes, Both, NoCondition, classOf, alters, inDirectory, needsObject}
+
+-- what a call looks at
+abbrev pub viewOf : Facility → Call → View
+viewOf f c =
+    record {
+      mac = f .mac;
+      fc = f .fc;
+      sim = f .sim;
+      users = f .users;
+      entered = f .entered;
+      caller = processOf f (c .process);
+      owner = userOf f ((processOf f (c .process)) .owner);
+      receiver = processOf f (c .target);
+      object = objectOf f (c .target);
+      opens = opensOf f (c .process) (c .target);
+    }
+
+-- the class of a call by the kind of its object
+abbrev pub classIn : View → Call → Class
+classIn v c = classOf (c .request) (v .object .kind)
+
+-- MAC. l is the object's label, r the process, clr the clearance of its owner.
+-- R: granted if L ≤ current, or automatic and L ≤ write mark and L ≤ clr
+unfoldable pub mayRead : Label → Process → Label → Bool
+mayRead l r clr = leq l (r .current) or (isAutomatic r and leq l (r .writemark) and leq l clr)
+
+-- W: granted if L = current, or automatic and read mark ≤ L ≤ write mark and L ≤ clr
+unfoldable pub mayWrite : Label → Process → Label → Bool
+mayWrite l r clr =
+    same l (r .current) or (isAutomatic r and leq (r .readmark) l and leq l (r .writemark) and leq l clr)
+
+-- set-level: granted if read mark ≤ e ≤ write mark and e ≤ clr
+unfoldable pub maySet : Label → Process → Label → Bool
+maySet l r clr = leq (r .readmark) l and leq l (r .writemark) and leq l clr
+
+-- by class, for an untrusted owner. B: as W. Any other outcome: not granted
+unfoldable pub macClass : Class → Label → Process → Label → Answer
+macClass Absent l r clr = NotGranted
+macClass Reads l r clr = grant (mayRead l r clr)
+macClass Writes l r clr = grant (mayWrite l r clr)
+macClass Both l r clr = grant (mayWrite l r clr)
+macClass NoCondition l r clr = Granted
+
+-- object with unset level: undefined, before everything else. Trusted owner: granted in every class
+unfoldable pub macObject : Class → Object → Process → User → Answer
+macObject k o r u =
+    cond (given (o .label)) (cond (on (u .trusted)) Granted (macClass k (o .label) r (u .clearance))) Undefined
+
+-- send-signal: granted to a trusted owner, and if both current levels are equal
+unfoldable pub macSignal : Process → User → Process → Answer
+macSignal r u receiver = grant (on (u .trusted) or same (r .current) (receiver .current))
+
+-- N, login, clone, terminate, create of a channel or control data: granted
+unfoldable pub macRule : Request → View → Call → Answer
+macRule Login v c = Granted
+macRule Clone v c = Granted
+macRule SendSignal v c = macSignal (v .caller) (v .owner) (v .receiver)
+macRule SetLevel v c = grant (maySet (label (c .extra)) (v .caller) (v .owner .clearance))
+macRule Terminate v c = Granted
+macRule Create v c =
+    cond (inDirectory (c .extra)) (macObject (classIn v c) (v .object) (v .caller) (v .owner)) Granted
+macRule OnObject v c = macObject (classIn v c) (v .object) (v .caller) (v .owner)
+
+-- FC: unset category undefined; granted if the category is general or matches the role by number; else not granted
+unfoldable pub fcRule : Object → User → Answer
+fcRule o u =
+    cond (eqb (o .category) 255) Undefined (grant (eqb (o .category) 0 or eqb (o .category) (u .role)))
+
+-- SIM: for class W or B, or write, on security information: granted to the security officer, else not granted
+unfoldable pub simRule : ℕ → Class → Object → User → Answer
+simRule request k o u =
+    cond ((alters k or eqb request 19) and eqb (o .datatype) 1) (grant (eqb (u .role) 1)) NotCared
+
+-- a module that is off does not care; FC and SIM care about object targets only
+unfoldable pub macAnswer : Request → View → Call → Answer
+macAnswer k v c = cond (on (v .mac)) (macRule k v c) NotCared
+
+unfoldable pub fcAnswer : Request → View → Call → Answer
+fcAnswer k v c = cond (on (v .fc) and needsObject k (c .extra)) (fcRule (v .object) (v .owner)) NotCared
+
+unfoldable pub simAnswer : Request → View → Call → Answer
+simAnswer k v c =
+    cond (on (v .sim) and needsObject k (c .extra)) (simRule (c .request) (classIn v c) (v .object) (v .owner)) NotCared
+
+unfoldable pub answers : Request → View → Call → Answers
+answers k v c =
+    record {
+      mac = macAnswer k v c;
+      fc = fcAnswer k v c;
+      sim = simAnswer k v c;
+      combined = combined3 (macAnswer k v c) (fcAnswer k v c) (simAnswer k v c);
+    }
+
+-- MAC's move of a process by class, on an object with label l.
+-- R: current and read mark become at least L. W: current becomes L, write mark at most L. B: as W, and both marks become L
+unfoldable pub moveBy : Class → Label → Process → Process
+moveBy Absent l r = r
+moveBy Reads l r =
+    record {
+      running = r .running;
+      owner = r .owner;
+      current = join (r .current) l;
+      readmark = join (r .readmark) l;
+      writemark = r .writemark;
+      automatic = r .automatic;
+    }
+moveBy Writes l r =
+    record {
+      running = r .running;
+      owner = r .owner;
+      current = l;
+      readmark = r .readmark;
+      writemark = meet (r .writemark) l;
+      automatic = r .automatic;
+    }
+moveBy Both l r =
+    record { running = r .running; owner = r .owner; current = l; readmark = l; writemark = l; automatic = r .automatic }
+moveBy NoCondition l r = r
+
+-- set-level: current becomes e, automatic goes off for good
+unfoldable pub setLevel : Label → Process → Process
+setLevel l r =
+    record {
+      running = r .running;
+      owner = r .owner;
+      current = l;
+      readmark = r .readmark;
+      writemark = r .writemark;
+      automatic = 0;
+    }
+
+-- the caller after an accepted call on an object: with MAC off, or a trusted owner, marks and current level are untouched
+unfoldable pub moved : View → Call → Process
+moved v c =
+    cond (on (v .mac) and not (on (v .owner .trusted))) (moveBy (classIn v c) (v .object .label) (v .caller)) (v .caller)
+
+-- the caller after an accepted set-level: with MAC off nothing changes
+unfoldable pub levelled : View → Call → Process
+levelled v c = cond (on (v .mac)) (setLevel (label (c .extra)) (v .caller)) (v .caller)

@@ -1,0 +1,98 @@
+-- Demands 1 and 2 as statements over the definitions. Each is proved in the module of Proofs/ that its comment names.
+use Rattle.state.specs.declared.Outcome.the-variants.{Refused}
+use Prim.Native.Nat.{ℕ, zero, suc, _+_, _≤_, min}
+use mathlib.Core.Path.{_≡_}
+use mathlib.Core.Bool.{true, false, not, cond}
+use mathlib.Core.List.{List, [], _∷_}
+use lib.Dec.{leb, ltb, eqb}
+use lib.ListN.{length}
+use Rattle.rules.specs.Types.{Outcome, Call, Facility}
+use Rattle.state.specs.Tests.{_and_, asked, on}
+use Rattle.state.specs.Outcomes.{denies, numberOf, objectNumberOf}
+use Rattle.state.specs.State.{mostObjects, mostRefusals, putRefusals, counted}
+use Rattle.rules.specs.Calls.{accepted, query, after, enforce, run, outcomes}
+use Rattle.rules.specs.Requests.{Request, lastRequest, requestOf, isAbsent, isNoCondition, isLogin, isCreate, needsObject}
+use Rattle.rules.specs.Setup.{fresh, acceptedSetup, usersOf, liveObjects, setupBytes}
+use Rattle.rules.specs.Modules.{View, classIn}
+use Rattle.rules.specs.Questions.{inRange, isRunning, isFree, openFor, roomFor, numberBy, number}
+
+-- Demand 1 (Proofs/Refusals): what a call that is not accepted leaves, and that query gives what enforce would.
+pub record Refusals : Type 0 where
+  -- everything but the counter is as it was
+  pub unchanged : (f : Facility) (c : Call) → accepted f c ≡ false → after f c ≡ putRefusals f (after f c .refusals)
+  -- numbers 1 to 11 leave the counter too, and come with four not-cared answers and object 255
+  pub uncounted : (f : Facility) (c : Call) → 1 ≤ number f c → number f c ≤ 11 → after f c ≡ f
+  pub unasked : (f : Facility) (c : Call) → 1 ≤ number f c → number f c ≤ 11 → query f c ≡ Refused (number f c)
+  -- 12 and 13 are counted, and there is no larger number
+  pub counts : (f : Facility) (c : Call) → denies (number f c) ≡ true → after f c ≡ counted f
+  pub largest : (f : Facility) (c : Call) → number f c ≤ 13
+  -- the outcome has the call's number, and query's is enforce's
+  pub numbered : (f : Facility) (c : Call) → numberOf (query f c) ≡ number f c
+  pub foretold : (f : Facility) (c : Call) → query f c ≡ (enforce f c) .outcome
+
+-- how many outcomes of a history have number 12 or 13
+unfoldable pub denialsIn : List Outcome → ℕ
+denialsIn [] = 0
+denialsIn (o ∷ os) = cond (denies (numberOf o)) 1 0 + denialsIn os
+
+-- The counter (Proofs/Counter): after every list from a fresh facility it is the number of 12s and 13s, up to its stop.
+abbrev pub CounterCounts : Type 0
+CounterCounts =
+    (s : List ℕ) (cs : List Call) → run (fresh s) cs .refusals ≡ min (denialsIn (outcomes (fresh s) cs)) mostRefusals
+
+-- the numbers that the accepted creates of a list return, in order
+unfoldable pub numbersGiven : Facility → List Call → List ℕ
+numbersGiven f [] = []
+numbersGiven f (c ∷ cs) =
+    cond (accepted f c and isCreate (requestOf (c .request)))
+    (objectNumberOf (query f c) ∷ numbersGiven (after f c) cs) (numbersGiven (after f c) cs)
+
+-- k numbers from n on: n, n + 1, ..
+unfoldable pub upFrom : ℕ → ℕ → List ℕ
+upFrom n zero = []
+upFrom n (suc k) = n ∷ upFrom (n + 1) k
+
+-- questions 1 to 9 are answered with yes
+pub record PassedTo9 (k : Request) (v : View) (c : Call) : Type 0 where
+  pub one : leb (c .request) lastRequest ≡ true
+  pub two : inRange k v c ≡ true
+  pub three : isRunning k v c ≡ true
+  pub four : isFree k v c ≡ true
+  pub five : asked (isLogin k) (ltb (c .extra) (v .users)) ≡ true
+  pub eight : asked (isCreate k) (leb (c .extra) 3) ≡ true
+  pub six : asked (needsObject k (c .extra)) (on (v .object .live)) ≡ true
+  pub seven : asked (needsObject k (c .extra)) (not (isAbsent (classIn v c))) ≡ true
+  pub nine : asked (needsObject k (c .extra)) (asked (isNoCondition (classIn v c)) (openFor v c)) ≡ true
+
+-- Object numbers (Proofs/ObjectNumbers).
+pub record ObjectNumbers : Type 0 where
+  -- at most 128 are entered
+  pub most : (s : List ℕ) (cs : List Call) → run (fresh s) cs .entered ≤ mostObjects
+  -- an accepted create returns the next number: those of a list go up by one from the set-up's, so none is given twice
+  pub rising : (s : List ℕ) (cs : List Call)
+      → numbersGiven (fresh s) cs ≡ upFrom (fresh s .entered) (length (numbersGiven (fresh s) cs))
+  pub entering : (s : List ℕ) (cs : List Call)
+      → run (fresh s) cs .entered ≡ fresh s .entered + length (numbersGiven (fresh s) cs)
+  -- number 10 exactly when its question is answered with no, which is: create, and not fewer than 128 entered
+  pub ten : (k : Request) (v : View) (c : Call) → PassedTo9 k v c → eqb (numberBy k v c) 10 ≡ not (roomFor k v c)
+  pub full : (k : Request) (v : View) (c : Call) → roomFor k v c ≡ asked (isCreate k) (ltb (v .entered) mostObjects)
+
+-- f and g have the same switches, users and live objects, in order
+pub record SameSetup (f g : Facility) : Type 0 where
+  pub mac : g .mac ≡ f .mac
+  pub fc : g .fc ≡ f .fc
+  pub sim : g .sim ≡ f .sim
+  pub users : usersOf g ≡ usersOf f
+  pub objects : liveObjects g ≡ liveObjects f
+
+-- a facility's set-up, written out and read back
+pub record ReadBack (f : Facility) : Type 0 where
+  pub allowed : acceptedSetup (setupBytes f) ≡ true
+  pub same : SameSetup f (fresh (setupBytes f))
+
+-- Set-ups (Proofs/RoundTrips).
+pub record RoundTrips : Type 0 where
+  -- a set-up that is read and written out gives the same bytes
+  pub written : (s : List ℕ) → acceptedSetup s ≡ true → setupBytes (fresh s) ≡ s
+  -- written out, after any list of calls from any fresh facility, and read back, it gives the same users, switches and live objects, in order
+  pub read : (s : List ℕ) (cs : List Call) → ReadBack (run (fresh s) cs)

@@ -1,0 +1,19 @@
+-- The proofs of the theorems.
+pub mod Passed
+pub mod Sound
+pub mod Invariant
+pub mod Opens
+pub mod Moves
+pub mod Classes
+pub mod Regular
+pub mod Records
+pub mod Fresh
+pub mod Steps
+pub mod OnlyWhen
+pub mod Kept
+pub mod Witness
+pub mod ExactlyWhen
+pub mod Refusals
+pub mod Counter
+pub mod ObjectNumbers
+pub mod RoundTrips

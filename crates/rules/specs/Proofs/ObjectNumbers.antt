@@ -1,0 +1,120 @@
+-- Object numbers: proved.
+use Prim.Native.Nat.{ℕ, _+_}
+use mathlib.Core.Path.{_≡_, refl, _∙_, ap, subst}
+use mathlib.Core.Logic.{_≢_}
+use mathlib.Core.Bool.{Bool, true, false, not, cond}
+use mathlib.Core.List.{List, [], _∷_}
+use lib.Dec.{leb, ltb, eqb}
+use lib.ListN.{length}
+use native.Mathlib.Omega.{arith}
+use borrow.Author.Tests.{ne-eqb}
+use Rattle.rules.specs.Types.{Call, Facility}
+use Rattle.state.specs.Tests.{_and_, asked, ask, at, and-l, by-test}
+use Rattle.state.specs.Outcomes.{denies, outcomeOf, objectNumberOf}
+use Rattle.state.specs.State.{mostObjects, putProcess, putOpens, addObject, dropObject, putRefusals, counted}
+use Rattle.state.specs.Answers.{isNotGranted, isUndefined}
+use Rattle.rules.specs.Effects.{opensBy, dropBy, effectBy}
+use Rattle.rules.specs.Calls.{accepted, objectGiven, query, afterRefusal, after, run}
+use Rattle.rules.specs.Requests.{Request, Login, Clone, SendSignal, SetLevel, Terminate, Create, OnObject, OpenChange, Keep, Add, Close, CloseAll, requestOf, isSetLevel, isCreate, inDirectory, openChange}
+use Rattle.rules.specs.Setup.{fresh}
+use Rattle.rules.specs.Modules.{View, viewOf, answers, moved}
+use Rattle.rules.specs.Promises.{numbersGiven, upFrom, PassedTo9, ObjectNumbers}
+use Rattle.rules.specs.Questions.{roomFor, numberBy, number}
+use Rattle.rules.specs.Proofs.Regular.{regular-run}
+use Rattle.rules.specs.Proofs.Fresh.{fresh-setup}
+
+drop-entered : (o : OpenChange) (f : Facility) (t : ℕ) → (dropBy o f t) .entered ≡ f .entered
+unfolding dropBy dropObject
+drop-entered Keep f t = refl
+drop-entered (Add m) f t = refl
+drop-entered Close f t = refl
+drop-entered CloseAll f t = refl
+
+-- an accepted create enters one object more, every other call none
+effect-entered : (k : Request) (f : Facility) (c : Call) → (effectBy k f c) .entered ≡ f .entered + cond (isCreate k) 1 0
+unfolding effectBy putProcess putOpens addObject
+effect-entered Login f c = omega arith
+effect-entered Clone f c = omega arith
+effect-entered SendSignal f c = omega arith
+effect-entered SetLevel f c = omega arith
+effect-entered Terminate f c = omega arith
+effect-entered Create f c = by-test (inDirectory (c .extra)) (λ e. rw e) (λ e. rw e)
+effect-entered OnObject f c =
+    let e = drop-entered (openChange (c .request)) (putOpens (putProcess f (c .process) (moved (viewOf f c) c)) (opensBy (openChange (c .request)) f c)) (c .target) in
+    omega arith
+
+refused-entered : (f : Facility) (n : ℕ) → (afterRefusal f n) .entered ≡ f .entered
+unfolding afterRefusal counted putRefusals
+refused-entered f n = by-test (denies n) (λ h. rw h) (λ h. rw h)
+
+-- whether a call is an accepted create
+abbrev creates : Facility → Call → Bool
+creates f c = accepted f c and isCreate (requestOf (c .request))
+
+call-entered : (f : Facility) (c : Call) → (after f c) .entered ≡ f .entered + cond (creates f c) 1 0
+unfolding after _and_
+call-entered f c =
+    by-test (accepted f c)
+    (λ h. rw h (effect-entered (requestOf (c .request)) f c))
+    (λ h. rw h (let e = refused-entered f (number f c) in omega arith))
+
+-- an accepted create returns the next number
+create-next : (f : Facility) (c : Call) → creates f c ≡ true → objectNumberOf (query f c) ≡ f .entered
+unfolding query outcomeOf objectGiven accepted
+create-next f c h = rw (h, and-l _ _ h)
+
+run-entered : (cs : List Call) (f : Facility) → run f cs .entered ≡ f .entered + length (numbersGiven f cs)
+unfolding run numbersGiven
+run-entered [] f = omega arith
+run-entered (c ∷ cs) f =
+    let e = call-entered f c in
+    let r = run-entered cs (after f c) in
+    by-test (creates f c)
+    (λ h. rw h (let d : (after f c) .entered ≡ f .entered + 1 = rw h at e in omega arith))
+    (λ h. rw h (let d : (after f c) .entered ≡ f .entered + 0 = rw h at e in omega arith))
+
+run-rising : (cs : List Call) (f : Facility) → numbersGiven f cs ≡ upFrom (f .entered) (length (numbersGiven f cs))
+unfolding numbersGiven upFrom
+run-rising [] f = refl
+run-rising (c ∷ cs) f =
+    let e = call-entered f c in
+    let r = run-rising cs (after f c) in
+    by-test (creates f c)
+    (λ h.
+    let d : (after f c) .entered ≡ f .entered + 1 = rw h at e in
+    rw h (rw (create-next f c h) (ap (λ (l : List ℕ). f .entered ∷ l) (subst (λ (n : ℕ). numbersGiven (after f c) cs ≡ upFrom n (length (numbersGiven (after f c) cs))) d r))))
+    (λ h.
+    let d : (after f c) .entered ≡ f .entered = rw h at e ∙ omega arith in
+    rw h (subst (λ (n : ℕ). numbersGiven (after f c) cs ≡ upFrom n (length (numbersGiven (after f c) cs))) d r))
+
+-- number 10 is no number of a later question
+ask-other : (b : Bool) (n r m : ℕ) → n ≢ m → r ≢ m → ask b n r ≢ m
+unfolding ask
+ask-other true n r m h k = k
+ask-other false n r m h k = h
+
+later-not-ten : (a b c : Bool) → eqb (ask a 11 (ask b 12 (ask c 13 0))) 10 ≡ false
+later-not-ten a b c =
+    ne-eqb _ 10 (ask-other a 11 _ 10 (omega arith) (ask-other b 12 _ 10 (omega arith) (ask-other c 13 0 10 (omega arith) (omega arith))))
+
+ten-room : (k : Request) (v : View) (c : Call) → PassedTo9 k v c → eqb (numberBy k v c) 10 ≡ not (roomFor k v c)
+unfolding numberBy ask
+ten-room k v c q =
+    rw (q .one, q .two, q .three, q .four, q .five, q .eight, q .six, q .seven, q .nine)
+    (by-test (roomFor k v c)
+    (λ h. rw h (later-not-ten (asked (isSetLevel k) (leb (c .extra) 15)) (not (isNotGranted (answers k v c .combined))) (not (isUndefined (answers k v c .combined)))))
+    (λ h. rw h))
+
+room-full : (k : Request) (v : View) (c : Call) → roomFor k v c ≡ asked (isCreate k) (ltb (v .entered) mostObjects)
+unfolding roomFor
+room-full k v c = refl
+
+pub object-numbers : ObjectNumbers
+object-numbers =
+    record {
+      most = λ s cs. regular-run cs (fresh s) (fresh-setup s .regular) .sound .entered;
+      rising = λ s cs. run-rising cs (fresh s);
+      entering = λ s cs. run-entered cs (fresh s);
+      ten = ten-room;
+      full = room-full;
+    }

@@ -1,0 +1,97 @@
+-- An accepted call is one of which each question of the list is answered with yes. Only this module goes through the list.
+use Prim.Native.Nat.{_<_}
+use mathlib.Core.Path.{_≡_, refl}
+use mathlib.Core.Bool.{true, not}
+use lib.Dec.{leb, ltb}
+use borrow.Author.Tests.{ltb-true, eqb-true, not-true, lt-ltb}
+use Rattle.rules.specs.Types.{Call, Facility}
+use Rattle.state.specs.Tests.{asked, at, on, and-l, and-r, and-i, ask-yes, ask-later, ask-i}
+use Rattle.state.specs.State.{mostProcesses, mostObjects}
+use Rattle.state.specs.Answers.{combine, passes, neither-passes, passes-not-granted, passes-undefined, passes-first}
+use Rattle.rules.specs.Calls.{accepted}
+use Rattle.rules.specs.Requests.{Request, lastRequest, isAbsent, isNoCondition, isLogin, isClone, isSendSignal, isSetLevel, isCreate, needsObject}
+use Rattle.rules.specs.Modules.{View, classIn, macRule, macAnswer, fcAnswer, simAnswer, answers}
+use Rattle.rules.specs.Questions.{inRange, isRunning, isFree, openFor, roomFor, numberBy, number}
+
+pub record Passed (k : Request) (v : View) (c : Call) : Type 0 where
+  pub known : leb (c .request) lastRequest ≡ true
+  pub process : c .process < mostProcesses
+  pub cloned : asked (isClone k) (ltb (c .target) mostProcesses) ≡ true
+  pub signalled : asked (isSendSignal k) (ltb (c .target) mostProcesses) ≡ true
+  pub running : asked (not (isLogin k)) (on (v .caller .running)) ≡ true
+  pub receiver : asked (isSendSignal k) (on (v .receiver .running)) ≡ true
+  pub newLogin : asked (isLogin k) (not (on (v .caller .running))) ≡ true
+  pub newClone : asked (isClone k) (not (on (v .receiver .running))) ≡ true
+  pub user : asked (isLogin k) (ltb (c .extra) (v .users)) ≡ true
+  pub kind : asked (isCreate k) (leb (c .extra) 3) ≡ true
+  pub alive : asked (needsObject k (c .extra)) (on (v .object .live)) ≡ true
+  pub class : asked (needsObject k (c .extra)) (not (isAbsent (classIn v c))) ≡ true
+  pub opened : asked (needsObject k (c .extra)) (asked (isNoCondition (classIn v c)) (openFor v c)) ≡ true
+  pub room : asked (isCreate k) (ltb (v .entered) mostObjects) ≡ true
+  pub level : asked (isSetLevel k) (leb (c .extra) 15) ≡ true
+  pub answer : passes (answers k v c .combined) ≡ true
+
+pub passed : (k : Request) (v : View) (c : Call) → numberBy k v c ≡ 0 → Passed k v c
+unfolding numberBy inRange isRunning isFree roomFor
+passed k v c h1 =
+    let h2 = ask-later _ _ _ h1 in
+    let h3 = ask-later _ _ _ h2 in
+    let h4 = ask-later _ _ _ h3 in
+    let h5 = ask-later _ _ _ h4 in
+    let h6 = ask-later _ _ _ h5 in
+    let h7 = ask-later _ _ _ h6 in
+    let h8 = ask-later _ _ _ h7 in
+    let h9 = ask-later _ _ _ h8 in
+    let h10 = ask-later _ _ _ h9 in
+    let h11 = ask-later _ _ _ h10 in
+    let h12 = ask-later _ _ _ h11 in
+    let h13 = ask-later _ _ _ h12 in
+    let q2 = ask-yes _ _ _ h2 in
+    let q3 = ask-yes _ _ _ h3 in
+    let q4 = ask-yes _ _ _ h4 in
+    record {
+      known = ask-yes _ _ _ h1;
+      process = ltb-true _ _ (and-l _ _ q2);
+      cloned = and-l _ _ (and-r _ _ q2);
+      signalled = and-r _ _ (and-r _ _ q2);
+      running = and-l _ _ q3;
+      receiver = and-r _ _ q3;
+      newLogin = and-l _ _ q4;
+      newClone = and-r _ _ q4;
+      user = ask-yes _ _ _ h5;
+      kind = ask-yes _ _ _ h6;
+      alive = ask-yes _ _ _ h7;
+      class = ask-yes _ _ _ h8;
+      opened = ask-yes _ _ _ h9;
+      room = ask-yes _ _ _ h10;
+      level = ask-yes _ _ _ h11;
+      answer = neither-passes _ (not-true _ (ask-yes _ _ _ h12)) (not-true _ (ask-yes _ _ _ h13));
+    }
+
+pub all-passed : (k : Request) (v : View) (c : Call) → Passed k v c → numberBy k v c ≡ 0
+unfolding numberBy inRange isRunning isFree roomFor
+all-passed k v c q =
+    ask-i _ _ _ (q .known)
+    (ask-i _ _ _ (and-i _ _ (lt-ltb _ _ (q .process)) (and-i _ _ (q .cloned) (q .signalled)))
+    (ask-i _ _ _ (and-i _ _ (q .running) (q .receiver))
+    (ask-i _ _ _ (and-i _ _ (q .newLogin) (q .newClone))
+    (ask-i _ _ _ (q .user)
+    (ask-i _ _ _ (q .kind)
+    (ask-i _ _ _ (q .alive)
+    (ask-i _ _ _ (q .class)
+    (ask-i _ _ _ (q .opened)
+    (ask-i _ _ _ (q .room)
+    (ask-i _ _ _ (q .level)
+    (ask-i _ _ _ (rw (passes-not-granted _ (q .answer)))
+    (ask-i _ _ _ (rw (passes-undefined _ (q .answer))) refl))))))))))))
+
+-- with MAC on, its rule granted the call
+pub mac-passed : (k : Request) (v : View) (c : Call) → Passed k v c → on (v .mac) ≡ true → passes (macRule k v c) ≡ true
+unfolding answers macAnswer
+mac-passed k v c q m =
+    rw m at (passes-first (macAnswer k v c) (combine (fcAnswer k v c) (simAnswer k v c)) (q .answer))
+
+-- an accepted call has number 0
+pub accepted-zero : (f : Facility) (c : Call) → accepted f c ≡ true → number f c ≡ 0
+unfolding accepted
+accepted-zero f c h = eqb-true _ _ h

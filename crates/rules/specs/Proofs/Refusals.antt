@@ -1,0 +1,86 @@
+-- Demand 1: proved.
+use Rattle.state.specs.declared.Outcome.the-variants.{Refused}
+use Prim.Native.Nat.{ℕ, _≤_}
+use mathlib.Core.Path.{_≡_, refl}
+use mathlib.Core.Logic.{_≢_}
+use mathlib.Core.Bool.{Bool, true, false}
+use lib.Dec.{eqb}
+use native.Mathlib.Omega.{arith}
+use borrow.Author.Tests.{eqb-true, ne-eqb}
+use Rattle.rules.specs.Types.{Call, Facility}
+use Rattle.state.specs.Tests.{_or_, ask, or-cases, by-test}
+use Rattle.state.specs.Outcomes.{denies, outcomeOf, numberOf, outcome-number}
+use Rattle.state.specs.State.{putRefusals, counted}
+use Rattle.rules.specs.Calls.{accepted, query, afterRefusal, after}
+use Rattle.rules.specs.Requests.{Request, requestOf}
+use Rattle.rules.specs.Modules.{View, viewOf}
+use Rattle.rules.specs.Promises.{Refusals}
+use Rattle.rules.specs.Questions.{numberBy, number}
+
+-- a question's number, or one that bounds the later ones'
+ask-most : (b : Bool) (n r m : ℕ) → n ≤ m → r ≤ m → ask b n r ≤ m
+unfolding ask
+ask-most true n r m h k = k
+ask-most false n r m h k = h
+
+largest-number : (k : Request) (v : View) (c : Call) → numberBy k v c ≤ 13
+unfolding numberBy
+largest-number k v c =
+    ask-most _ 1 _ 13 (omega arith) (ask-most _ 2 _ 13 (omega arith) (ask-most _ 3 _ 13 (omega arith) (ask-most _ 4 _ 13 (omega arith)
+    (ask-most _ 5 _ 13 (omega arith) (ask-most _ 8 _ 13 (omega arith) (ask-most _ 6 _ 13 (omega arith) (ask-most _ 7 _ 13 (omega arith)
+    (ask-most _ 9 _ 13 (omega arith) (ask-most _ 10 _ 13 (omega arith) (ask-most _ 11 _ 13 (omega arith) (ask-most _ 12 _ 13 (omega arith)
+    (ask-most _ 13 0 13 (omega arith) (omega arith)))))))))))))
+
+-- 1 to 11 are neither 0 nor 12 nor 13
+pub not-denied : (n : ℕ) → n ≤ 11 → denies n ≡ false
+unfolding denies _or_
+not-denied n h =
+    let a : n ≢ 12 = omega arith in
+    let b : n ≢ 13 = omega arith in
+    rw (ne-eqb n 12 a, ne-eqb n 13 b)
+
+not-zero : (n : ℕ) → 1 ≤ n → eqb n 0 ≡ false
+not-zero n h = let a : n ≢ 0 = omega arith in ne-eqb n 0 a
+
+denied-not-zero : (n : ℕ) → denies n ≡ true → eqb n 0 ≡ false
+unfolding denies
+denied-not-zero n h =
+    or-cases _ _ h
+    (λ e. let q = eqb-true n 12 e in not-zero n (omega arith))
+    (λ e. let q = eqb-true n 13 e in not-zero n (omega arith))
+
+refusal-kept : (f : Facility) (n : ℕ) → afterRefusal f n ≡ putRefusals f (afterRefusal f n .refusals)
+unfolding afterRefusal counted putRefusals
+refusal-kept f n = by-test (denies n) (λ h. rw h) (λ h. rw h)
+
+unchanged' : (f : Facility) (c : Call) → accepted f c ≡ false → after f c ≡ putRefusals f (after f c .refusals)
+unfolding after
+unchanged' f c h = rw h (refusal-kept f (number f c))
+
+uncounted' : (f : Facility) (c : Call) → 1 ≤ number f c → number f c ≤ 11 → after f c ≡ f
+unfolding after accepted afterRefusal
+uncounted' f c h k = rw (not-zero (number f c) h, not-denied (number f c) k)
+
+unasked' : (f : Facility) (c : Call) → 1 ≤ number f c → number f c ≤ 11 → query f c ≡ Refused (number f c)
+unfolding query outcomeOf
+unasked' f c h k = rw (not-zero (number f c) h, not-denied (number f c) k)
+
+counts' : (f : Facility) (c : Call) → denies (number f c) ≡ true → after f c ≡ counted f
+unfolding after accepted afterRefusal
+counts' f c h = rw (denied-not-zero (number f c) h, h)
+
+pub query-number : (f : Facility) (c : Call) → numberOf (query f c) ≡ number f c
+unfolding query
+query-number f c = outcome-number (number f c) _ _
+
+pub refusals : Refusals
+refusals =
+    record {
+      unchanged = unchanged';
+      uncounted = uncounted';
+      unasked = unasked';
+      counts = counts';
+      largest = λ f c. largest-number (requestOf (c .request)) (viewOf f c) c;
+      numbered = query-number;
+      foretold = λ f c. refl;
+    }

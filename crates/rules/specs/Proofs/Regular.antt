@@ -1,0 +1,245 @@
+-- What holds of every facility that a list of calls reaches, whatever its switches: each byte is one that a set-up allows, and the labels of every
+-- process are lawful.
+use Prim.Native.Nat.{ℕ, _≤_, _<_}
+use mathlib.Core.Path.{_≡_, refl, subst⁻¹}
+use mathlib.Core.Bool.{true}
+use mathlib.Core.List.{List, [], _∷_}
+use lib.Dec.{leb}
+use lib.ListN.{length, length-set}
+use native.Mathlib.Omega.{arith}
+use borrow.Author.Tests.{ltb-true, leb-true}
+use Rattle.rules.specs.Types.{Call, Process, User, Object, Facility}
+use Rattle.state.specs.Tests.{_and_, _or_, at, on, and-l, and-r, or-cases, clash, by-test, by-eq}
+use Rattle.state.specs.Views.{user-new, user-old, object-new, object-old, length-build}
+use Rattle.state.specs.Outcomes.{denies}
+use Rattle.state.specs.State.{mostUsers, mostProcesses, mostObjects, mostOpens, processOf, objectOf, userOf, live, closeObject, closeProcess, copyProcess, putProcess, putOpens, addUser, addObject, dropObject, putRefusals, counted, freshProcess, noProcess}
+use Rattle.state.specs.Labels.{Label, lawful, given, ⊑-refl, bottom-least, join-lawful, meet-lawful, level-lawful, lawful-level, unset-level}
+use Rattle.state.specs.Answers.{passes}
+use Rattle.rules.specs.Effects.{opensBy, dropBy, created, effectBy}
+use Rattle.rules.specs.Calls.{accepted, afterRefusal, after, run}
+use Rattle.rules.specs.Requests.{Request, Login, Clone, SendSignal, SetLevel, Terminate, Create, OnObject, Class, Absent, Reads, Writes, Both, NoCondition, OpenChange, Keep, Add, Close, CloseAll, requestOf, inDirectory, openChange}
+use Rattle.rules.specs.Setup.{switchesAllowed, userAllowed, objectAllowed, switchesRecord, userRecord, objectRecord}
+use Rattle.rules.specs.Modules.{View, viewOf, classIn, macObject, macRule, moveBy, setLevel, moved, levelled}
+use Rattle.rules.specs.Questions.{number}
+use Rattle.rules.specs.Proofs.Moves.{object-granted}
+use Rattle.rules.specs.Proofs.Invariant.{each}
+use Rattle.rules.specs.Proofs.Sound.{Sound, sound-process, sound-opens, sound-refusals, sound-user, sound-object, sound-drop}
+use Rattle.rules.specs.Proofs.Passed.{Passed, passed, mac-passed, accepted-zero}
+
+pub record LawfulProcess (r : Process) : Type 0 where
+  pub current : lawful (r .current) ≡ true
+  pub readmark : lawful (r .readmark) ≡ true
+  pub writemark : lawful (r .writemark) ≡ true
+
+pub record Regular (f : Facility) : Type 0 where
+  pub sound : Sound f
+  pub switches : switchesAllowed (switchesRecord f) ≡ true
+  pub user : (u : ℕ) → u < f .users → userAllowed (userRecord (userOf f u)) ≡ true
+  pub object : (t : ℕ) → t < f .entered → objectAllowed (objectRecord (objectOf f t)) ≡ true
+  pub process : (p : ℕ) → LawfulProcess (processOf f p)
+
+-- each way of changing a facility keeps it
+regular-process : (f : Facility) (p : ℕ) (r : Process) → Regular f → p < mostProcesses → LawfulProcess r → Regular (putProcess f p r)
+unfolding putProcess userOf objectOf
+regular-process f p r R h L =
+    record {
+      sound = sound-process f p r (R .sound);
+      switches = R .switches;
+      user = R .user;
+      object = R .object;
+      process = each f p r (λ q x. LawfulProcess x) (R .sound .shaped) h L (R .process);
+    }
+
+regular-opens : (f : Facility) (l : List ℕ) → length l ≡ mostOpens → Regular f → Regular (putOpens f l)
+unfolding putOpens userOf objectOf processOf
+regular-opens f l e R =
+    record {
+      sound = sound-opens f l e (R .sound);
+      switches = R .switches;
+      user = R .user;
+      object = R .object;
+      process = R .process;
+    }
+
+regular-refusals : (f : Facility) (n : ℕ) → Regular f → Regular (putRefusals f n)
+unfolding putRefusals userOf objectOf processOf
+regular-refusals f n R =
+    record {
+      sound = sound-refusals f n (R .sound);
+      switches = R .switches;
+      user = R .user;
+      object = R .object;
+      process = R .process;
+    }
+
+regular-drop : (f : Facility) (t : ℕ) → Regular f → Regular (dropObject f t)
+unfolding dropObject userOf objectOf processOf
+regular-drop f t R =
+    record {
+      sound = sound-drop f t (R .sound);
+      switches = R .switches;
+      user = R .user;
+      object = R .object;
+      process = R .process;
+    }
+
+pub regular-user : (f : Facility) (u : User) → Regular f → f .users < mostUsers → userAllowed (userRecord u) ≡ true → Regular (addUser f u)
+unfolding addUser objectOf processOf
+regular-user f u R h a =
+    record {
+      sound = sound-user f u h (R .sound);
+      switches = R .switches;
+      user = λ v b.
+          by-eq v (f .users)
+          (λ e. subst⁻¹ (λ (k : ℕ). userAllowed (userRecord (userOf (addUser f u) k)) ≡ true) e (rw (user-new f u (R .sound .shaped) h) a))
+          (λ n. rw (user-old f u v n) (R .user v (omega arith)));
+      object = R .object;
+      process = R .process;
+    }
+
+pub regular-object : (f : Facility) (o : Object) → Regular f → f .entered < mostObjects → objectAllowed (objectRecord o) ≡ true
+    → Regular (addObject f o)
+unfolding addObject userOf processOf
+regular-object f o R h a =
+    record {
+      sound = sound-object f o h (R .sound);
+      switches = R .switches;
+      user = R .user;
+      object = λ t b.
+          by-eq t (f .entered)
+          (λ e. subst⁻¹ (λ (k : ℕ). objectAllowed (objectRecord (objectOf (addObject f o) k)) ≡ true) e (rw (object-new f o (R .sound .shaped) h) a))
+          (λ n. rw (object-old f o t n) (R .object t (omega arith)));
+      process = R .process;
+    }
+
+-- what an allowed object's bytes tell
+pub allowed-kind : (o : Object) → objectAllowed (objectRecord o) ≡ true → o .kind ≤ 3
+unfolding objectAllowed
+allowed-kind o h = leb-true _ _ (and-l _ _ h)
+
+pub allowed-label : (o : Object) → objectAllowed (objectRecord o) ≡ true → given (o .label) ≡ true → lawful (o .label) ≡ true
+unfolding objectAllowed
+allowed-label o h g =
+    or-cases _ _ (and-l _ _ (and-r _ _ h)) (λ e. level-lawful _ e) (λ e. clash g (unset-level _ e))
+
+pub allowed-clearance : (u : User) → userAllowed (userRecord u) ≡ true → lawful (u .clearance) ≡ true
+unfolding userAllowed
+allowed-clearance u h = level-lawful _ (and-l _ _ h)
+
+-- a created object's bytes are allowed
+created-allowed : (r : Process) (e : ℕ) → LawfulProcess r → leb e 3 ≡ true → objectAllowed (objectRecord (created r e)) ≡ true
+unfolding objectAllowed _and_ _or_
+created-allowed r e L h = rw (h, lawful-level _ (L .current))
+
+-- the process of a login and that of no process are lawful, and a move keeps that
+fresh-lawful : (u : ℕ) → LawfulProcess (freshProcess u)
+unfolding freshProcess
+fresh-lawful u = record { current = bottom-least _; readmark = bottom-least _; writemark = ⊑-refl _ }
+
+pub none-lawful : LawfulProcess noProcess
+unfolding noProcess
+none-lawful = record { current = bottom-least _; readmark = bottom-least _; writemark = bottom-least _ }
+
+move-lawful : (k : Class) (l : Label) (r : Process) → lawful l ≡ true → LawfulProcess r → LawfulProcess (moveBy k l r)
+unfolding moveBy
+move-lawful Absent l r h L = L
+move-lawful Reads l r h L =
+    record { current = join-lawful _ _ (L .current) h; readmark = join-lawful _ _ (L .readmark) h; writemark = L .writemark }
+move-lawful Writes l r h L = record { current = h; readmark = L .readmark; writemark = meet-lawful _ _ (L .writemark) }
+move-lawful Both l r h L = record { current = h; readmark = h; writemark = h }
+move-lawful NoCondition l r h L = L
+
+-- the caller's process after an accepted call
+moved-lawful : (v : View) (c : Call) → LawfulProcess (v .caller) → objectAllowed (objectRecord (v .object)) ≡ true
+    → (on (v .mac) ≡ true → passes (macObject (classIn v c) (v .object) (v .caller) (v .owner)) ≡ true) → LawfulProcess (moved v c)
+unfolding moved _and_
+moved-lawful v c L a p =
+    by-test (on (v .mac))
+    (λ m. by-test (on (v .owner .trusted))
+    (λ t. rw (m, t) L)
+    (λ t.
+    let (g, q) = object-granted (classIn v c) (v .object) (v .caller) (v .owner) t (p m) in
+    rw (m, t) (move-lawful _ _ _ (allowed-label (v .object) a g) L)))
+    (λ m. rw m L)
+
+levelled-lawful : (v : View) (c : Call) → LawfulProcess (v .caller) → leb (c .extra) 15 ≡ true → LawfulProcess (levelled v c)
+unfolding levelled setLevel
+levelled-lawful v c L h =
+    by-test (on (v .mac))
+    (λ m. rw m (record { current = level-lawful _ h; readmark = L .readmark; writemark = L .writemark }))
+    (λ m. rw m L)
+
+-- the opens keep their length
+pub opens-length : (o : OpenChange) (f : Facility) (c : Call) → length (f .opens) ≡ mostOpens → length (opensBy o f c) ≡ mostOpens
+unfolding opensBy closeObject
+opens-length Keep f c e = e
+opens-length (Add m) f c e = simp length-set e
+opens-length Close f c e = simp length-set e
+opens-length CloseAll f c e = length-build mostOpens _
+
+regular-drop-by : (o : OpenChange) (f : Facility) (t : ℕ) → Regular f → Regular (dropBy o f t)
+unfolding dropBy
+regular-drop-by Keep f t R = R
+regular-drop-by (Add m) f t R = R
+regular-drop-by Close f t R = R
+regular-drop-by CloseAll f t R = regular-drop f t R
+
+put-entered : (f : Facility) (p : ℕ) (r : Process) → (putProcess f p r) .entered ≡ f .entered
+unfolding putProcess
+put-entered f p r = refl
+
+-- every accepted call keeps it
+module _ (f : Facility) (c : Call) (R : Regular f) where
+  object-there : live f (c .target) ≡ true → objectAllowed (objectRecord (objectOf f (c .target))) ≡ true
+  object-there h = R .object (c .target) (R .sound .alive (c .target) h)
+
+  regular-create : Passed Create (viewOf f c) c → Regular (effectBy Create f c)
+  unfolding effectBy macRule
+  regular-create q =
+      by-test (inDirectory (c .extra))
+      (λ e.
+      let a = object-there (rw e at (q .alive)) in
+      let L = moved-lawful (viewOf f c) c (R .process (c .process)) a (λ m. rw e at (mac-passed Create (viewOf f c) c q m)) in
+      rw e (regular-object _ _ (regular-process f (c .process) _ R (q .process) L)
+      (rw (put-entered f (c .process) (moved (viewOf f c) c)) (ltb-true _ _ (q .room)))
+      (created-allowed _ (c .extra) L (q .kind))))
+      (λ e. rw e (regular-object f _ R (ltb-true _ _ (q .room)) (created-allowed _ (c .extra) (R .process (c .process)) (q .kind))))
+
+  regular-object-call : Passed OnObject (viewOf f c) c → Regular (effectBy OnObject f c)
+  unfolding effectBy macRule
+  regular-object-call q =
+      let a = object-there (q .alive) in
+      let L = moved-lawful (viewOf f c) c (R .process (c .process)) a (λ m. mac-passed OnObject (viewOf f c) c q m) in
+      regular-drop-by (openChange (c .request)) _ (c .target)
+      (regular-opens (putProcess f (c .process) _) _ (opens-length (openChange (c .request)) f c (R .sound .shaped .opens))
+      (regular-process f (c .process) _ R (q .process) L))
+
+  regular-effect : (k : Request) → Passed k (viewOf f c) c → Regular (effectBy k f c)
+  unfolding effectBy copyProcess closeProcess closeObject
+  regular-effect Login q = regular-process f (c .process) _ R (q .process) (fresh-lawful (c .extra))
+  regular-effect Clone q =
+      regular-opens _ _ (length-build mostOpens _)
+      (regular-process f (c .target) _ R (ltb-true _ _ (q .cloned)) (R .process (c .process)))
+  regular-effect SendSignal q = R
+  regular-effect SetLevel q =
+      regular-process f (c .process) _ R (q .process) (levelled-lawful (viewOf f c) c (R .process (c .process)) (q .level))
+  regular-effect Terminate q =
+      regular-opens _ _ (length-build mostOpens _) (regular-process f (c .process) _ R (q .process) none-lawful)
+  regular-effect Create q = regular-create q
+  regular-effect OnObject q = regular-object-call q
+
+regular-refused : (f : Facility) (n : ℕ) → Regular f → Regular (afterRefusal f n)
+unfolding afterRefusal counted
+regular-refused f n R = by-test (denies n) (λ d. rw d (regular-refusals f _ R)) (λ d. rw d R)
+
+pub regular-after : (f : Facility) (c : Call) → Regular f → Regular (after f c)
+unfolding after
+regular-after f c R =
+    by-test (accepted f c)
+    (λ h. rw h (regular-effect f c R (requestOf (c .request)) (passed (requestOf (c .request)) (viewOf f c) c (accepted-zero f c h))))
+    (λ h. rw h (regular-refused f (number f c) R))
+
+pub regular-run : (cs : List Call) (f : Facility) → Regular f → Regular (run f cs)
+unfolding run
+regular-run [] f R = R
+regular-run (c ∷ cs) f R = regular-run cs (after f c) (regular-after f c R)

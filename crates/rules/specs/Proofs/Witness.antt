@@ -1,0 +1,245 @@
+-- Demand 3, second half: a list by which b comes to hold a's matter.
+use Prim.Native.Nat.{ℕ, _<_}
+use mathlib.Core.Path.{_≡_, refl, sym, _∙_, subst₂}
+use mathlib.Core.Bool.{Bool, true, false}
+use mathlib.Core.List.{List, _∷_}
+use lib.Dec.{leb, eqb}
+use lib.Seq.{getD-set-same}
+use native.Mathlib.Omega.{arith}
+use borrow.Author.Tests.{eqb-true, eq-eqb}
+use Rattle.rules.specs.Types.{Call, Process, Facility}
+use Rattle.state.specs.Tests.{_and_, _or_, asked, on, or-l, or-r, clash, by-test}
+use Rattle.state.specs.Views.{Shaped, process-same, shaped-process, shaped-opens, reading-add, writing-add}
+use Rattle.state.specs.State.{mostProcesses, mostObjects, processOf, objectOf, userOf, live, trustedUser, labelOf, clearanceOf, place, opensOf, reading, writing, addModes, putProcess, putOpens}
+use Rattle.state.specs.Labels.{Label, given}
+use Rattle.state.specs.Answers.{passes, combine-not-cared}
+use Rattle.rules.specs.Effects.{opensBy, dropBy, effectBy}
+use Rattle.rules.specs.Calls.{accepted, after, trustedLogin, trustedLogins}
+use Rattle.rules.specs.Requests.{Request, OnObject, Class, Absent, Reads, Writes, Both, NoCondition, OpenChange, Keep, Add, Close, CloseAll, lastRequest, requestOf, classOf, isAbsent, isNoCondition, isLogin, openChange}
+use Rattle.rules.specs.Matter.{Account, processGains, objectGains, takes, gives, carry, carryBy, entered, account, history}
+use Rattle.rules.specs.Modules.{viewOf, classIn, macClass, macObject, macRule, macAnswer, fcAnswer, simAnswer, answers, moveBy, moved}
+use Rattle.rules.specs.Questions.{openFor, numberBy}
+use Rattle.rules.specs.Proofs.Regular.{opens-length}
+use Rattle.rules.specs.Proofs.Passed.{all-passed}
+
+-- request r by process p on object t
+abbrev pub by : ℕ → ℕ → ℕ → Call
+by p r t = record { request = r; process = p; target = t; extra = 0 }
+
+-- delete drops an object
+abbrev pub drops : OpenChange → Bool
+drops Keep = false
+drops Close = false
+drops CloseAll = true
+drops (Add m) = false
+
+undropped : (o : OpenChange) (f : Facility) (t : ℕ) → drops o ≡ false → dropBy o f t ≡ f
+unfolding dropBy
+undropped Keep f t h = refl
+undropped Close f t h = refl
+undropped CloseAll f t h = clash refl h
+undropped (Add m) f t h = refl
+
+move-running : (k : Class) (l : Label) (r : Process) → (moveBy k l r) .running ≡ r .running
+unfolding moveBy
+move-running Absent l r = refl
+move-running Reads l r = refl
+move-running Writes l r = refl
+move-running Both l r = refl
+move-running NoCondition l r = refl
+
+move-owner : (k : Class) (l : Label) (r : Process) → (moveBy k l r) .owner ≡ r .owner
+unfolding moveBy
+move-owner Absent l r = refl
+move-owner Reads l r = refl
+move-owner Writes l r = refl
+move-owner Both l r = refl
+move-owner NoCondition l r = refl
+
+-- a state on the way, from the set-up's facility f₀: MAC alone is on, the objects are those of f₀, process p is r and its owner u
+pub record Scene (p : ℕ) (f₀ f : Facility) (a : Account) (u : ℕ) (r : Process) : Type 0 where
+  pub small : p < mostProcesses
+  pub shaped : Shaped f
+  pub mac : on (f .mac) ≡ true
+  pub fc : on (f .fc) ≡ false
+  pub sim : on (f .sim) ≡ false
+  pub objects : (t : ℕ) → objectOf f t ≡ objectOf f₀ t
+  pub user : userOf f u ≡ userOf f₀ u
+  pub untrusted : trustedUser f₀ u ≡ false
+  pub process : processOf f p ≡ r
+  pub running : on (r .running) ≡ true
+  pub owner : r .owner ≡ u
+  pub kinds : (t : ℕ) → a .kinds t ≡ (objectOf f₀ t) .kind
+
+-- what request q of class k by process p, which is r, on object t needs
+pub record Allowed (p : ℕ) (f₀ f : Facility) (u : ℕ) (r : Process) (q t : ℕ) (k : Class) : Type 0 where
+  pub target : requestOf q ≡ OnObject
+  pub known : leb q lastRequest ≡ true
+  pub alive : live f₀ t ≡ true
+  pub class : classOf q ((objectOf f₀ t) .kind) ≡ k
+  pub there : isAbsent k ≡ false
+  pub opened : asked (isNoCondition k) (openFor (viewOf f (by p q t)) (by p q t)) ≡ true
+  pub labelled : given (labelOf f₀ t) ≡ true
+  pub granted : passes (macClass k (labelOf f₀ t) r (clearanceOf f₀ u)) ≡ true
+
+module _ (p : ℕ) (f₀ f : Facility) (a : Account) (u : ℕ) (r : Process) (q t : ℕ) (k : Class) (S : Scene p f₀ f a u r) (A : Allowed p f₀ f u r q t k) where
+  class-is : classIn (viewOf f (by p q t)) (by p q t) ≡ k
+  class-is = rw (S .objects t) (A .class)
+
+  owner-is : userOf f (r .owner) ≡ userOf f₀ u
+  owner-is = rw (S .owner) (S .user)
+
+  mac-passes : passes (macObject k (objectOf f₀ t) r (userOf f₀ u)) ≡ true
+  unfolding macObject
+  mac-passes = rw (S .untrusted, A .labelled) (A .granted)
+
+  combined-is : answers OnObject (viewOf f (by p q t)) (by p q t) .combined ≡ macObject k (objectOf f₀ t) r (userOf f₀ u)
+  unfolding answers macAnswer fcAnswer simAnswer macRule _and_
+  combined-is = rw (S .mac, S .fc, S .sim, class-is, S .process, owner-is, S .objects t) (combine-not-cared _)
+
+  number-is : numberBy OnObject (viewOf f (by p q t)) (by p q t) ≡ 0
+  number-is =
+      all-passed OnObject (viewOf f (by p q t)) (by p q t)
+      (record {
+        known = A .known;
+        process = S .small;
+        cloned = refl;
+        signalled = refl;
+        running = rw (S .process) (S .running);
+        receiver = refl;
+        newLogin = refl;
+        newClone = refl;
+        user = refl;
+        kind = refl;
+        alive = rw (S .objects t) (A .alive);
+        class = rw (class-is, A .there);
+        opened = rw class-is (A .opened);
+        room = refl;
+        level = refl;
+        answer = rw combined-is mac-passes;
+      })
+
+  accepted-is : accepted f (by p q t) ≡ true
+  unfolding accepted
+  accepted-is = rw (A .target, number-is)
+
+  moved-to : moved (viewOf f (by p q t)) (by p q t) ≡ moveBy k (labelOf f₀ t) r
+  unfolding moved _and_
+  moved-to = rw (class-is, S .process, owner-is, S .untrusted, S .objects t, S .mac)
+
+  -- the account after the call
+  carried-is : carryBy OnObject a (by p q t) ≡ carry k a (by p q t)
+  unfolding carryBy
+  carried-is = rw (S .kinds t, A .class)
+
+  carry-kinds : (x : ℕ) → (carry k a (by p q t)) .kinds x ≡ a .kinds x
+  unfolding carry processGains objectGains
+  carry-kinds x =
+      by-test (takes q k) (λ h. rw h) (λ h. rw h (by-test (gives q k) (λ e. rw e) (λ e. rw e)))
+
+  effect-is : (o : OpenChange) → openChange q ≡ o → drops o ≡ false
+      → effectBy OnObject f (by p q t) ≡ putOpens (putProcess f p (moveBy k (labelOf f₀ t) r)) (opensBy o f (by p q t))
+  unfolding effectBy
+  effect-is o e d = rw (e, moved-to) (undropped o _ t d)
+
+  -- the state after a call that drops no object
+  scene-after : (o : OpenChange) → openChange q ≡ o → drops o ≡ false
+      → Scene p f₀ (putOpens (putProcess f p (moveBy k (labelOf f₀ t) r)) (opensBy o f (by p q t))) (carry k a (by p q t)) u (moveBy k (labelOf f₀ t) r)
+  unfolding putOpens putProcess objectOf processOf userOf
+  scene-after o e d =
+      record {
+        small = S .small;
+        shaped = shaped-opens (putProcess f p _) (opensBy o f (by p q t)) (opens-length o f (by p q t) (S .shaped .opens)) (shaped-process f p _ (S .shaped));
+        mac = S .mac;
+        fc = S .fc;
+        sim = S .sim;
+        objects = S .objects;
+        user = S .user;
+        untrusted = S .untrusted;
+        process = process-same f p _ (S .shaped) (S .small);
+        running = rw (move-running k (labelOf f₀ t) r) (S .running);
+        owner = move-owner k (labelOf f₀ t) r ∙ S .owner;
+        kinds = λ x. carry-kinds x ∙ S .kinds x;
+      }
+
+-- what is to be reached by a list of calls: b holds the matter of x
+pub record Reach (f : Facility) (a : Account) (cs : List Call) (b x : ℕ) : Type 0 where
+  pub untrusted : trustedLogins f cs ≡ false
+  pub holding : (account a (history f cs)) .objects b x ≡ true
+
+after-is : (f : Facility) (c : Call) (k : Request) → requestOf (c .request) ≡ k → accepted f c ≡ true → after f c ≡ effectBy k f c
+unfolding after
+after-is f c k e h = rw (h, e)
+
+recorded-is : (f : Facility) (a : Account) (c : Call) (k : Request) → requestOf (c .request) ≡ k → accepted f c ≡ true
+    → entered a (record { call = c; accepted = accepted f c }) ≡ carryBy k a c
+unfolding entered
+recorded-is f a c k e h = rw (h, e)
+
+login-is : (f : Facility) (c : Call) (k : Request) → requestOf (c .request) ≡ k → accepted f c ≡ true → (isLogin k and trustedUser f (c .extra)) ≡ false
+    → trustedLogin f c ≡ false
+unfolding trustedLogin _and_
+login-is f c k e h u = rw (h, e) u
+
+-- an accepted call, and what is reached after it
+pub reach-call : (f : Facility) (a : Account) (c : Call) (k : Request) (cs : List Call) (b x : ℕ) → requestOf (c .request) ≡ k → accepted f c ≡ true
+    → (isLogin k and trustedUser f (c .extra)) ≡ false
+    → Reach (effectBy k f c) (carryBy k a c) cs b x → Reach f a (c ∷ cs) b x
+unfolding trustedLogins account history _or_
+reach-call f a c k cs b x e h u R =
+    record {
+      untrusted = rw (login-is f c k e h u, after-is f c k e h) (R .untrusted);
+      holding =
+          subst₂ (λ (g : Facility) (d : Account). (account d (history g cs)) .objects b x ≡ true)
+          (sym (after-is f c k e h)) (sym (recorded-is f a c k e h)) (R .holding);
+    }
+
+-- what calls by process p keep and bring
+module _ (p : ℕ) (a : Account) (q t : ℕ) (k : Class) (x : ℕ) where
+  pub carry-keeps : a .processes p x ≡ true → (carry k a (by p q t)) .processes p x ≡ true
+  unfolding carry processGains objectGains
+  carry-keeps h =
+      by-test (takes q k) (λ e. rw (e, eq-eqb p p refl) (or-l _ _ h)) (λ e. rw e (by-test (gives q k) (λ d. rw d h) (λ d. rw d h)))
+
+  pub carry-keeps-object : (y : ℕ) → a .objects y x ≡ true → (carry k a (by p q t)) .objects y x ≡ true
+  unfolding carry processGains objectGains
+  carry-keeps-object y h =
+      by-test (takes q k) (λ e. rw e h) (λ e. rw e (by-test (gives q k)
+      (λ d. rw d (by-test (eqb t y) (λ w. rw w (or-l _ _ (rw (eqb-true t y w) h))) (λ w. rw w h)))
+      (λ d. rw d h)))
+
+  pub carry-takes : takes q k ≡ true → a .objects t x ≡ true → (carry k a (by p q t)) .processes p x ≡ true
+  unfolding carry processGains
+  carry-takes e h = rw (e, eq-eqb p p refl) (or-r _ _ h)
+
+  pub carry-gives : takes q k ≡ false → gives q k ≡ true → a .processes p x ≡ true → (carry k a (by p q t)) .objects t x ≡ true
+  unfolding carry objectGains
+  carry-gives e d h = rw (e, d, eq-eqb t t refl) (or-r _ _ h)
+
+-- a call by process p on an object, and what is reached after it
+module _ (p : ℕ) (f₀ f : Facility) (a : Account) (u : ℕ) (r : Process) (q t : ℕ) (k : Class) (o : OpenChange) (S : Scene p f₀ f a u r) (A : Allowed p f₀ f u r q t k)
+    (e : openChange q ≡ o) (d : drops o ≡ false) where
+  pub reach-target : (cs : List Call) (b x : ℕ)
+      → (Scene p f₀ (putOpens (putProcess f p (moveBy k (labelOf f₀ t) r)) (opensBy o f (by p q t))) (carry k a (by p q t)) u (moveBy k (labelOf f₀ t) r)
+      → Reach (putOpens (putProcess f p (moveBy k (labelOf f₀ t) r)) (opensBy o f (by p q t))) (carry k a (by p q t)) cs b x)
+      → Reach f a (by p q t ∷ cs) b x
+  unfolding _and_
+  reach-target cs b x R =
+      reach-call f a (by p q t) OnObject cs b x (A .target) (accepted-is p f₀ f a u r q t k S A) refl
+      (rw (effect-is p f₀ f a u r q t k S A o e d, carried-is p f₀ f a u r q t k S A) (R (scene-after p f₀ f a u r q t k S A o e d)))
+
+-- the marks of an object just opened by process p
+opened-mark : (p : ℕ) (f : Facility) (s : Process) (q t m : ℕ) → Shaped f → p < mostProcesses → t < mostObjects
+    → opensOf (putOpens (putProcess f p s) (opensBy (Add m) f (by p q t))) p t ≡ addModes (opensOf f p t) m
+unfolding opensOf opensBy putOpens putProcess
+opened-mark p f s q t m S hp h = getD-set-same (f .opens) (place p t) _ 0 (omega (arith, S .opens))
+
+pub open-to-read : (p : ℕ) (f : Facility) (s : Process) (q t m : ℕ) → Shaped f → p < mostProcesses → t < mostObjects → reading m ≡ true
+    → openFor (viewOf (putOpens (putProcess f p s) (opensBy (Add m) f (by p q t))) (by p 12 t)) (by p 12 t) ≡ true
+unfolding openFor
+open-to-read p f s q t m S hp h e = rw (opened-mark p f s q t m S hp h, reading-add (opensOf f p t) m) (or-r _ _ e)
+
+pub open-to-write : (p : ℕ) (f : Facility) (s : Process) (q t m : ℕ) → Shaped f → p < mostProcesses → t < mostObjects → writing m ≡ true
+    → openFor (viewOf (putOpens (putProcess f p s) (opensBy (Add m) f (by p q t))) (by p 19 t)) (by p 19 t) ≡ true
+unfolding openFor
+open-to-write p f s q t m S hp h e = rw (opened-mark p f s q t m S hp h, writing-add (opensOf f p t) m) (or-r _ _ e)

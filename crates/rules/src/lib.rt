@@ -1,0 +1,49 @@
+// The types of the rules: what a request acts on, its class, what it does to the opens, and what a call looks at.
+use state::Object;
+use state::Process;
+use state::User;
+
+// What a request acts on. All requests that are not named here act on an object.
+pub enum Request {
+    Login,
+    Clone,
+    SendSignal,
+    SetLevel,
+    Terminate,
+    Create,
+    OnObject,
+}
+
+// The class of a request by the kind of its object: R, W, B, N, or that the kind does not have the request.
+pub enum Class {
+    Absent,
+    Reads,
+    Writes,
+    Both,
+    NoCondition,
+}
+
+// What a request on an object does to the opens.
+pub enum OpenChange {
+    Keep,
+    // The marks to add: 1 reading, 2 writing, 3 both.
+    Add(u8),
+    // Both marks of the caller on the object go.
+    Close,
+    // All marks on the object go.
+    CloseAll,
+}
+
+// What a call looks at: the switches, the counts, the caller and its owner, and the target as a process and as an object.
+pub struct View {
+    pub mac: u8,
+    pub fc: u8,
+    pub sim: u8,
+    pub users: u8,
+    pub entered: u8,
+    pub caller: Process,
+    pub owner: User,
+    pub receiver: Process,
+    pub object: Object,
+    pub opens: u8,
+}

@@ -1,0 +1,103 @@
+-- "What the modules answer": the answers' numbers and their combination.
+use Prim.Native.Nat.{ℕ}
+use mathlib.Core.Path.{_≡_, refl, sym}
+use mathlib.Core.Bool.{Bool, true, false}
+pub use Rattle.state.specs.declared.Answer.{Answer}
+pub use Rattle.state.specs.declared.Answer.the-variants.{NotCared, Granted, NotGranted, Undefined}
+
+-- the paper's number of an answer
+abbrev pub code : Answer → ℕ
+code NotCared = 0
+code Granted = 1
+code NotGranted = 2
+code Undefined = 3
+
+-- table 4.7: undefined beats all, then not granted, then granted; not cared with not cared stays so
+abbrev pub combine : Answer → Answer → Answer
+combine NotCared b = b
+combine Granted NotCared = Granted
+combine Granted Granted = Granted
+combine Granted NotGranted = NotGranted
+combine Granted Undefined = Undefined
+combine NotGranted NotCared = NotGranted
+combine NotGranted Granted = NotGranted
+combine NotGranted NotGranted = NotGranted
+combine NotGranted Undefined = Undefined
+combine Undefined b = Undefined
+
+-- the modules' answers combined, MAC first
+abbrev pub combined3 : Answer → Answer → Answer → Answer
+combined3 mac fc sim = combine mac (combine fc sim)
+
+abbrev pub isNotGranted : Answer → Bool
+isNotGranted NotCared = false
+isNotGranted Granted = false
+isNotGranted NotGranted = true
+isNotGranted Undefined = false
+
+abbrev pub isUndefined : Answer → Bool
+isUndefined NotCared = false
+isUndefined Granted = false
+isUndefined NotGranted = false
+isUndefined Undefined = true
+
+-- granted where a test holds, else not granted
+unfoldable pub grant : Bool → Answer
+grant true = Granted
+grant false = NotGranted
+
+-- enforced as yes: not cared is enforced like granted
+unfoldable pub passes : Answer → Bool
+passes NotCared = true
+passes Granted = true
+passes NotGranted = false
+passes Undefined = false
+
+-- an answer passes exactly where it is neither not granted nor undefined
+pub neither-passes : (a : Answer) → isNotGranted a ≡ false → isUndefined a ≡ false → passes a ≡ true
+unfolding passes
+neither-passes NotCared h k = refl
+neither-passes Granted h k = refl
+neither-passes NotGranted h k = cc
+neither-passes Undefined h k = cc
+
+pub passes-not-granted : (a : Answer) → passes a ≡ true → isNotGranted a ≡ false
+unfolding passes
+passes-not-granted NotCared h = refl
+passes-not-granted Granted h = refl
+passes-not-granted NotGranted h = sym h
+passes-not-granted Undefined h = refl
+
+pub passes-undefined : (a : Answer) → passes a ≡ true → isUndefined a ≡ false
+unfolding passes
+passes-undefined NotCared h = refl
+passes-undefined Granted h = refl
+passes-undefined NotGranted h = refl
+passes-undefined Undefined h = sym h
+
+-- a combined answer passes only where the first passes
+pub passes-first : (a b : Answer) → passes (combine a b) ≡ true → passes a ≡ true
+unfolding passes
+passes-first NotCared b h = refl
+passes-first Granted b h = refl
+passes-first NotGranted NotCared h = h
+passes-first NotGranted Granted h = h
+passes-first NotGranted NotGranted h = h
+passes-first NotGranted Undefined h = h
+passes-first Undefined b h = h
+
+pub passes-grant : (b : Bool) → passes (grant b) ≡ true → b ≡ true
+unfolding passes grant
+passes-grant true h = refl
+passes-grant false h = h
+
+pub grant-passes : (b : Bool) → b ≡ true → passes (grant b) ≡ true
+unfolding passes grant
+grant-passes true h = refl
+grant-passes false h = h
+
+pub combine-not-cared : (a : Answer) → combine a NotCared ≡ a
+combine-not-cared NotCared = refl
+combine-not-cared Granted = refl
+combine-not-cared NotGranted = refl
+combine-not-cared Undefined = refl

@@ -1,0 +1,8 @@
+-- Definitions of document 01 that the rules are built on: labels, answers, the state.
+pub mod Tests
+pub mod Labels
+pub mod Answers
+pub mod Outcomes
+pub mod State
+pub mod Table47
+pub mod Views

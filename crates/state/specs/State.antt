@@ -1,0 +1,294 @@
+-- "State": what is read off a facility, and the few ways in which it changes.
+pub use Rattle.state.specs.declared.Facility.{Facility}
+pub use Rattle.state.specs.declared.Process.{Process}
+pub use Rattle.state.specs.declared.Object.{Object}
+pub use Rattle.state.specs.declared.User.{User}
+pub use Rattle.state.specs.declared.Call.{Call}
+use Prim.Native.Nat.{ℕ, zero, suc, _+_, _*_, _/_, _%_}
+use mathlib.Core.Bool.{Bool, cond}
+use mathlib.Core.List.{List, [], _∷_}
+use lib.Dec.{ltb, eqb}
+use lib.ListN.{set, replicate}
+use Rattle.state.specs.Tests.{_or_, at, on}
+use Rattle.state.specs.Labels.{Label, label, bottom, top}
+
+-- users are 0..15, processes 0..31, object numbers 0..127
+abbrev pub mostUsers : ℕ
+mostUsers = 16
+
+abbrev pub mostProcesses : ℕ
+mostProcesses = 32
+
+abbrev pub mostObjects : ℕ
+mostObjects = 128
+
+abbrev pub mostOpens : ℕ
+mostOpens = 4096
+
+-- where the counter of refusals stops
+abbrev pub mostRefusals : ℕ
+mostRefusals = 4294967295
+
+-- What is read off a facility.
+unfoldable pub processOf : Facility → ℕ → Process
+processOf f p =
+    record {
+      running = at (f .runnings) p;
+      owner = at (f .owners) p;
+      current = label (at (f .currents) p);
+      readmark = label (at (f .readmarks) p);
+      writemark = label (at (f .writemarks) p);
+      automatic = at (f .automatics) p;
+    }
+
+unfoldable pub objectOf : Facility → ℕ → Object
+objectOf f t =
+    record {
+      live = at (f .lives) t;
+      kind = at (f .kinds) t;
+      label = label (at (f .levels) t);
+      category = at (f .categories) t;
+      datatype = at (f .datatypes) t;
+    }
+
+unfoldable pub userOf : Facility → ℕ → User
+userOf f u =
+    record {
+      clearance = label (at (f .clearances) u);
+      role = at (f .roles) u;
+      trusted = at (f .trusts) u;
+    }
+
+-- whether process p runs, object t is live, u is a user, and u is a trusted one
+abbrev pub runs : Facility → ℕ → Bool
+runs f p = on ((processOf f p) .running)
+
+abbrev pub live : Facility → ℕ → Bool
+live f t = on ((objectOf f t) .live)
+
+abbrev pub isUser : Facility → ℕ → Bool
+isUser f u = ltb u (f .users)
+
+abbrev pub trustedUser : Facility → ℕ → Bool
+trustedUser f u = on ((userOf f u) .trusted)
+
+abbrev pub labelOf : Facility → ℕ → Label
+labelOf f t = (objectOf f t) .label
+
+abbrev pub clearanceOf : Facility → ℕ → Label
+clearanceOf f u = (userOf f u) .clearance
+
+abbrev pub isAutomatic : Process → Bool
+isAutomatic r = on (r .automatic)
+
+-- The opens: two bits in one byte for each process and object.
+abbrev pub place : ℕ → ℕ → ℕ
+place p t = p * mostObjects + t
+
+unfoldable pub opensOf : Facility → ℕ → ℕ → ℕ
+opensOf f p t = at (f .opens) (place p t)
+
+-- open for reading, open for writing
+unfoldable pub reading : ℕ → Bool
+reading v = eqb (v % 2) 1
+
+unfoldable pub writing : ℕ → Bool
+writing v = eqb (v / 2 % 2) 1
+
+-- the marks v with those of m added
+unfoldable pub addModes : ℕ → ℕ → ℕ
+addModes v m = cond (reading v or reading m) 1 0 + cond (writing v or writing m) 2 0
+
+-- the list of n elements by a rule
+unfoldable pub build : ℕ → (ℕ → ℕ) → List ℕ
+build zero g = []
+build (suc n) g = g zero ∷ build n (λ i. g (suc i))
+
+-- the opens after those on object t are dropped, after those of process p are, and after process t gets a copy of p's
+unfoldable pub closeObject : List ℕ → ℕ → List ℕ
+closeObject l t = build mostOpens (λ i. cond (eqb (i % mostObjects) t) 0 (at l i))
+
+unfoldable pub closeProcess : List ℕ → ℕ → List ℕ
+closeProcess l p = build mostOpens (λ i. cond (eqb (i / mostObjects) p) 0 (at l i))
+
+unfoldable pub copyProcess : List ℕ → ℕ → ℕ → List ℕ
+copyProcess l p t = build mostOpens (λ i. cond (eqb (i / mostObjects) t) (at l (place p (i % mostObjects))) (at l i))
+
+-- The parts of a facility, so that a change names only the part that it changes.
+pub record Users : Type 0 where
+  pub count : ℕ
+  pub clearances : List ℕ
+  pub roles : List ℕ
+  pub trusts : List ℕ
+
+pub record Objects : Type 0 where
+  pub entered : ℕ
+  pub lives : List ℕ
+  pub kinds : List ℕ
+  pub levels : List ℕ
+  pub categories : List ℕ
+  pub datatypes : List ℕ
+
+pub record Processes : Type 0 where
+  pub runnings : List ℕ
+  pub owners : List ℕ
+  pub currents : List ℕ
+  pub readmarks : List ℕ
+  pub writemarks : List ℕ
+  pub automatics : List ℕ
+
+abbrev pub usersIn : Facility → Users
+usersIn f = record { count = f .users; clearances = f .clearances; roles = f .roles; trusts = f .trusts }
+
+abbrev pub objectsIn : Facility → Objects
+objectsIn f =
+    record {
+      entered = f .entered;
+      lives = f .lives;
+      kinds = f .kinds;
+      levels = f .levels;
+      categories = f .categories;
+      datatypes = f .datatypes;
+    }
+
+abbrev pub processesIn : Facility → Processes
+processesIn f =
+    record {
+      runnings = f .runnings;
+      owners = f .owners;
+      currents = f .currents;
+      readmarks = f .readmarks;
+      writemarks = f .writemarks;
+      automatics = f .automatics;
+    }
+
+-- the facility with f's switches and these parts
+abbrev pub with : Facility → Users → Objects → Processes → List ℕ → ℕ → Facility
+with f us os ps opens refusals =
+    record {
+      mac = f .mac;
+      fc = f .fc;
+      sim = f .sim;
+      users = us .count;
+      clearances = us .clearances;
+      roles = us .roles;
+      trusts = us .trusts;
+      entered = os .entered;
+      lives = os .lives;
+      kinds = os .kinds;
+      levels = os .levels;
+      categories = os .categories;
+      datatypes = os .datatypes;
+      runnings = ps .runnings;
+      owners = ps .owners;
+      currents = ps .currents;
+      readmarks = ps .readmarks;
+      writemarks = ps .writemarks;
+      automatics = ps .automatics;
+      opens = opens;
+      refusals = refusals;
+    }
+
+-- The ways in which a facility changes: a process, the opens, a new user, a new object, a dropped object, the counter.
+unfoldable pub putProcess : Facility → ℕ → Process → Facility
+putProcess f p r =
+    with f (usersIn f) (objectsIn f)
+    (record {
+      runnings = set (f .runnings) p (r .running);
+      owners = set (f .owners) p (r .owner);
+      currents = set (f .currents) p (r .current .level);
+      readmarks = set (f .readmarks) p (r .readmark .level);
+      writemarks = set (f .writemarks) p (r .writemark .level);
+      automatics = set (f .automatics) p (r .automatic);
+    })
+    (f .opens) (f .refusals)
+
+unfoldable pub putOpens : Facility → List ℕ → Facility
+putOpens f l = with f (usersIn f) (objectsIn f) (processesIn f) l (f .refusals)
+
+-- the user with the next number
+unfoldable pub addUser : Facility → User → Facility
+addUser f u =
+    with f
+    (record {
+      count = f .users + 1;
+      clearances = set (f .clearances) (f .users) (u .clearance .level);
+      roles = set (f .roles) (f .users) (u .role);
+      trusts = set (f .trusts) (f .users) (u .trusted);
+    })
+    (objectsIn f) (processesIn f) (f .opens) (f .refusals)
+
+-- the object with the next number
+unfoldable pub addObject : Facility → Object → Facility
+addObject f o =
+    with f (usersIn f)
+    (record {
+      entered = f .entered + 1;
+      lives = set (f .lives) (f .entered) (o .live);
+      kinds = set (f .kinds) (f .entered) (o .kind);
+      levels = set (f .levels) (f .entered) (o .label .level);
+      categories = set (f .categories) (f .entered) (o .category);
+      datatypes = set (f .datatypes) (f .entered) (o .datatype);
+    })
+    (processesIn f) (f .opens) (f .refusals)
+
+-- a deleted object keeps its number and what else it had
+unfoldable pub dropObject : Facility → ℕ → Facility
+dropObject f t =
+    with f (usersIn f)
+    (record {
+      entered = f .entered;
+      lives = set (f .lives) t 0;
+      kinds = f .kinds;
+      levels = f .levels;
+      categories = f .categories;
+      datatypes = f .datatypes;
+    })
+    (processesIn f) (f .opens) (f .refusals)
+
+unfoldable pub putRefusals : Facility → ℕ → Facility
+putRefusals f n = with f (usersIn f) (objectsIn f) (processesIn f) (f .opens) n
+
+-- one more refusal; at its stop the counter stays
+abbrev pub oneMore : ℕ → ℕ
+oneMore n = cond (ltb n mostRefusals) (n + 1) n
+
+unfoldable pub counted : Facility → Facility
+counted f = putRefusals f (oneMore (f .refusals))
+
+-- login: current 0, read mark 0, write mark 15, automatic on
+unfoldable pub freshProcess : ℕ → Process
+freshProcess u =
+    record { running = 1; owner = u; current = bottom; readmark = bottom; writemark = top; automatic = 1 }
+
+-- the process of a number that does not run: nothing is kept of it
+unfoldable pub noProcess : Process
+noProcess =
+    record { running = 0; owner = 0; current = bottom; readmark = bottom; writemark = bottom; automatic = 0 }
+
+-- with these switches: no user, no object, no process, no refusal
+unfoldable pub blank : ℕ → ℕ → ℕ → Facility
+blank mac fc sim =
+    record {
+      mac = mac;
+      fc = fc;
+      sim = sim;
+      users = 0;
+      clearances = replicate mostUsers 0;
+      roles = replicate mostUsers 0;
+      trusts = replicate mostUsers 0;
+      entered = 0;
+      lives = replicate mostObjects 0;
+      kinds = replicate mostObjects 0;
+      levels = replicate mostObjects 0;
+      categories = replicate mostObjects 0;
+      datatypes = replicate mostObjects 0;
+      runnings = replicate mostProcesses 0;
+      owners = replicate mostProcesses 0;
+      currents = replicate mostProcesses 0;
+      readmarks = replicate mostProcesses 0;
+      writemarks = replicate mostProcesses 0;
+      automatics = replicate mostProcesses 0;
+      opens = replicate mostOpens 0;
+      refusals = 0;
+    }

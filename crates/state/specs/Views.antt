@@ -1,0 +1,235 @@
+-- What each way of changing a facility does to what is read off it.
+use Prim.Native.Nat.{ℕ, zero, suc, _+_, _/_, _%_, _<_}
+use mathlib.Core.Path.{_≡_, refl, ap}
+use mathlib.Core.Logic.{_≢_}
+use mathlib.Core.Bool.{Bool, true, false, cond}
+use mathlib.Core.List.{List}
+use lib.ListN.{length, set, length-set}
+use lib.Seq.{getD-set-same, getD-set-other}
+use native.Mathlib.Omega.{arith}
+use Rattle.state.specs.Tests.{_or_, at}
+use Rattle.state.specs.State.{Facility, Process, Object, User, mostUsers, mostProcesses, mostObjects, mostOpens, processOf, objectOf, userOf, place, reading, writing, addModes, build, Users, Objects, Processes, usersIn, objectsIn, processesIn, putProcess, putOpens, addUser, addObject, dropObject, putRefusals}
+use Rattle.state.specs.Labels.{label}
+
+-- the arrays have their lengths
+pub record UsersShaped (x : Users) : Type 0 where
+  pub clearances : length (x .clearances) ≡ mostUsers
+  pub roles : length (x .roles) ≡ mostUsers
+  pub trusts : length (x .trusts) ≡ mostUsers
+
+pub record ObjectsShaped (x : Objects) : Type 0 where
+  pub lives : length (x .lives) ≡ mostObjects
+  pub kinds : length (x .kinds) ≡ mostObjects
+  pub levels : length (x .levels) ≡ mostObjects
+  pub categories : length (x .categories) ≡ mostObjects
+  pub datatypes : length (x .datatypes) ≡ mostObjects
+
+pub record ProcessesShaped (x : Processes) : Type 0 where
+  pub runnings : length (x .runnings) ≡ mostProcesses
+  pub owners : length (x .owners) ≡ mostProcesses
+  pub currents : length (x .currents) ≡ mostProcesses
+  pub readmarks : length (x .readmarks) ≡ mostProcesses
+  pub writemarks : length (x .writemarks) ≡ mostProcesses
+  pub automatics : length (x .automatics) ≡ mostProcesses
+
+pub record Shaped (f : Facility) : Type 0 where
+  pub users : UsersShaped (usersIn f)
+  pub objects : ObjectsShaped (objectsIn f)
+  pub processes : ProcessesShaped (processesIn f)
+  pub opens : length (f .opens) ≡ mostOpens
+
+at-same : (l : List ℕ) (i v n : ℕ) → length l ≡ n → i < n → at (set l i v) i ≡ v
+at-same l i v n e h = getD-set-same l i v 0 (omega arith)
+
+at-other : (l : List ℕ) (i j v : ℕ) → j ≢ i → at (set l i v) j ≡ at l j
+at-other l i j v h = getD-set-other l i j v 0 h
+
+-- the process that was put is read back, and no other is touched
+pub process-same : (f : Facility) (p : ℕ) (r : Process) → Shaped f → p < mostProcesses → processOf (putProcess f p r) p ≡ r
+unfolding processOf putProcess
+process-same f p r s h =
+    let l = s .processes in
+    λ i. record {
+      running = at-same (f .runnings) p (r .running) mostProcesses (l .runnings) h i;
+      owner = at-same (f .owners) p (r .owner) mostProcesses (l .owners) h i;
+      current = label (at-same (f .currents) p (r .current .level) mostProcesses (l .currents) h i);
+      readmark = label (at-same (f .readmarks) p (r .readmark .level) mostProcesses (l .readmarks) h i);
+      writemark = label (at-same (f .writemarks) p (r .writemark .level) mostProcesses (l .writemarks) h i);
+      automatic = at-same (f .automatics) p (r .automatic) mostProcesses (l .automatics) h i;
+    }
+
+pub process-other : (f : Facility) (p q : ℕ) (r : Process) → q ≢ p → processOf (putProcess f p r) q ≡ processOf f q
+unfolding processOf putProcess
+process-other f p q r h =
+    λ i. record {
+      running = at-other (f .runnings) p q (r .running) h i;
+      owner = at-other (f .owners) p q (r .owner) h i;
+      current = label (at-other (f .currents) p q (r .current .level) h i);
+      readmark = label (at-other (f .readmarks) p q (r .readmark .level) h i);
+      writemark = label (at-other (f .writemarks) p q (r .writemark .level) h i);
+      automatic = at-other (f .automatics) p q (r .automatic) h i;
+    }
+
+-- so with a new user and a new object
+pub user-new : (f : Facility) (u : User) → Shaped f → f .users < mostUsers → userOf (addUser f u) (f .users) ≡ u
+unfolding userOf addUser
+user-new f u s h =
+    let l = s .users in
+    λ i. record {
+      clearance = label (at-same (f .clearances) (f .users) (u .clearance .level) mostUsers (l .clearances) h i);
+      role = at-same (f .roles) (f .users) (u .role) mostUsers (l .roles) h i;
+      trusted = at-same (f .trusts) (f .users) (u .trusted) mostUsers (l .trusts) h i;
+    }
+
+pub user-old : (f : Facility) (u : User) (v : ℕ) → v ≢ f .users → userOf (addUser f u) v ≡ userOf f v
+unfolding userOf addUser
+user-old f u v h =
+    λ i. record {
+      clearance = label (at-other (f .clearances) (f .users) v (u .clearance .level) h i);
+      role = at-other (f .roles) (f .users) v (u .role) h i;
+      trusted = at-other (f .trusts) (f .users) v (u .trusted) h i;
+    }
+
+pub object-new : (f : Facility) (o : Object) → Shaped f → f .entered < mostObjects → objectOf (addObject f o) (f .entered) ≡ o
+unfolding objectOf addObject
+object-new f o s h =
+    let l = s .objects in
+    λ i. record {
+      live = at-same (f .lives) (f .entered) (o .live) mostObjects (l .lives) h i;
+      kind = at-same (f .kinds) (f .entered) (o .kind) mostObjects (l .kinds) h i;
+      label = label (at-same (f .levels) (f .entered) (o .label .level) mostObjects (l .levels) h i);
+      category = at-same (f .categories) (f .entered) (o .category) mostObjects (l .categories) h i;
+      datatype = at-same (f .datatypes) (f .entered) (o .datatype) mostObjects (l .datatypes) h i;
+    }
+
+pub object-old : (f : Facility) (o : Object) (t : ℕ) → t ≢ f .entered → objectOf (addObject f o) t ≡ objectOf f t
+unfolding objectOf addObject
+object-old f o t h =
+    λ i. record {
+      live = at-other (f .lives) (f .entered) t (o .live) h i;
+      kind = at-other (f .kinds) (f .entered) t (o .kind) h i;
+      label = label (at-other (f .levels) (f .entered) t (o .label .level) h i);
+      category = at-other (f .categories) (f .entered) t (o .category) h i;
+      datatype = at-other (f .datatypes) (f .entered) t (o .datatype) h i;
+    }
+
+-- the lengths stay
+pub shaped-process : (f : Facility) (p : ℕ) (r : Process) → Shaped f → Shaped (putProcess f p r)
+unfolding putProcess
+shaped-process f p r s =
+    let l = s .processes in
+    record {
+      users = s .users;
+      objects = s .objects;
+      processes = record {
+        runnings = simp length-set (l .runnings);
+        owners = simp length-set (l .owners);
+        currents = simp length-set (l .currents);
+        readmarks = simp length-set (l .readmarks);
+        writemarks = simp length-set (l .writemarks);
+        automatics = simp length-set (l .automatics);
+      };
+      opens = s .opens;
+    }
+
+pub shaped-opens : (f : Facility) (l : List ℕ) → length l ≡ mostOpens → Shaped f → Shaped (putOpens f l)
+unfolding putOpens
+shaped-opens f l e s = record { users = s .users; objects = s .objects; processes = s .processes; opens = e }
+
+pub shaped-user : (f : Facility) (u : User) → Shaped f → Shaped (addUser f u)
+unfolding addUser
+shaped-user f u s =
+    let l = s .users in
+    record {
+      users = record {
+        clearances = simp length-set (l .clearances);
+        roles = simp length-set (l .roles);
+        trusts = simp length-set (l .trusts);
+      };
+      objects = s .objects;
+      processes = s .processes;
+      opens = s .opens;
+    }
+
+pub shaped-object : (f : Facility) (o : Object) → Shaped f → Shaped (addObject f o)
+unfolding addObject
+shaped-object f o s =
+    let l = s .objects in
+    record {
+      users = s .users;
+      objects = record {
+        lives = simp length-set (l .lives);
+        kinds = simp length-set (l .kinds);
+        levels = simp length-set (l .levels);
+        categories = simp length-set (l .categories);
+        datatypes = simp length-set (l .datatypes);
+      };
+      processes = s .processes;
+      opens = s .opens;
+    }
+
+pub shaped-drop : (f : Facility) (t : ℕ) → Shaped f → Shaped (dropObject f t)
+unfolding dropObject
+shaped-drop f t s =
+    let l = s .objects in
+    record {
+      users = s .users;
+      objects = record {
+        lives = simp length-set (l .lives);
+        kinds = l .kinds;
+        levels = l .levels;
+        categories = l .categories;
+        datatypes = l .datatypes;
+      };
+      processes = s .processes;
+      opens = s .opens;
+    }
+
+pub shaped-refusals : (f : Facility) (n : ℕ) → Shaped f → Shaped (putRefusals f n)
+unfolding putRefusals
+shaped-refusals f n s = record { users = s .users; objects = s .objects; processes = s .processes; opens = s .opens }
+
+-- lists by a rule
+pub length-build : (n : ℕ) (g : ℕ → ℕ) → length (build n g) ≡ n
+unfolding build
+length-build zero g = refl
+length-build (suc n) g = ap suc (length-build n (λ i. g (suc i)))
+
+pub at-build : (n : ℕ) (g : ℕ → ℕ) (i : ℕ) → i < n → at (build n g) i ≡ g i
+unfolding build
+at-build zero g i h = absurd (omega arith)
+at-build (suc n) g zero h = refl
+at-build (suc n) g (suc i) h = at-build n (λ j. g (suc j)) i (omega arith)
+
+-- places of opens
+pub place-below : (p t : ℕ) → p < mostProcesses → t < mostObjects → place p t < mostOpens
+place-below p t h k = omega arith
+
+pub place-object : (p t : ℕ) → t < mostObjects → place p t % mostObjects ≡ t
+place-object p t k = omega arith
+
+pub place-process : (p t : ℕ) → t < mostObjects → place p t / mostObjects ≡ p
+place-process p t k = omega arith
+
+-- the two marks of an open
+read-bit : (a b : Bool) → reading (cond a 1 0 + cond b 2 0) ≡ a
+unfolding reading
+read-bit true true = refl
+read-bit true false = refl
+read-bit false true = refl
+read-bit false false = refl
+
+write-bit : (a b : Bool) → writing (cond a 1 0 + cond b 2 0) ≡ b
+unfolding writing
+write-bit true true = refl
+write-bit true false = refl
+write-bit false true = refl
+write-bit false false = refl
+
+pub reading-add : (v m : ℕ) → reading (addModes v m) ≡ (reading v or reading m)
+unfolding addModes
+reading-add v m = read-bit (reading v or reading m) (writing v or writing m)
+
+pub writing-add : (v m : ℕ) → writing (addModes v m) ≡ (writing v or writing m)
+unfolding addModes
+writing-add v m = write-bit (reading v or reading m) (writing v or writing m)
