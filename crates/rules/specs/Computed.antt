@@ -3,11 +3,11 @@ use Prim.Native.Nat.{ℕ}
 use mathlib.Core.List.{List, [], _∷_}
 use Rattle.rules.specs.Types.{Answer, Call, Facility}
 use Rattle.state.specs.Tests.{_and_, _or_, ask}
-use Rattle.state.specs.Outcomes.{denies, outcomeOf, numberOf, answersOf}
-use Rattle.state.specs.State.{processOf, objectOf, userOf, opensOf, reading, writing, addModes, build, closeObject, closeProcess, copyProcess, putProcess, putOpens, addUser, addObject, dropObject, putRefusals, counted, freshProcess, noProcess, blank}
+use Rattle.state.specs.Outcomes.{denies, answersFrom, outcomeOf, numberOf, answersOf}
+use Rattle.state.specs.State.{processIn, objectIn, userIn, opensOf, reading, writing, addModes, build, closeObject, closeProcess, copyProcess, putProcess, putOpens, putUser, putObject, addUser, addObject, dropObject, putRefusals, counted, freshProcess, noProcess, blank}
 use Rattle.state.specs.Labels.{leq, same, join, meet, bottom, top, given}
 use Rattle.state.specs.Answers.{grant}
-use Rattle.rules.specs.Effects.{opensBy, dropBy, effectBy}
+use Rattle.rules.specs.Effects.{openBy, effectFrom}
 use Rattle.rules.specs.Calls.{accepted, objectGiven, query, afterRefusal, after}
 use Rattle.rules.specs.Requests.{requestOf, files, directories, channels, controlData, listOf, classAmong, classOf, openChange}
 use Rattle.rules.specs.Setup.{recordsOf, sized, fits, room, switchesAllowed, userAllowed, objectAllowed, allowed, recordNumber, enterRecord, enterAll, readSetup}
@@ -18,14 +18,14 @@ use Rattle.rules.specs.Questions.{inRange, isRunning, isFree, openFor, r
 
 -- Whoever unfolds this unfolds every definition of document 01, so that closed calls compute.
 unfoldable pub everything : ℕ
-unfolding _and_ _or_ ask leq same join meet bottom top given grant denies outcomeOf processOf objectOf userOf opensOf reading writing addModes build closeObject closeProcess copyProcess putProcess putOpens addUser addObject dropObject putRefusals counted freshProcess noProcess blank recordsOf sized fits room switchesAllowed userAllowed objectAllowed allowed recordNumber enterRecord enterAll readSetup requestOf files directories channels controlData listOf classAmong classOf openChange mayRead mayWrite maySet macClass macObject macSignal macRule fcRule simRule macAnswer fcAnswer simAnswer answers moveBy setLevel moved levelled inRange isRunning isFree openFor roomFor numberBy opensBy dropBy effectBy accepted objectGiven query afterRefusal after start processGains objectGains assign enter carry carryBy entered account history decimalIn levelText callLine callsOf callLines setupLine shortLine printed
+unfolding _and_ _or_ ask leq same join meet bottom top given grant denies answersFrom outcomeOf processIn objectIn userIn opensOf reading writing addModes build closeObject closeProcess copyProcess putProcess putOpens putUser putObject addUser addObject dropObject putRefusals counted freshProcess noProcess blank recordsOf sized fits room switchesAllowed userAllowed objectAllowed allowed recordNumber enterRecord enterAll readSetup requestOf files directories channels controlData listOf classAmong classOf openChange mayRead mayWrite maySet macClass macObject macSignal macRule fcRule simRule macAnswer fcAnswer simAnswer answers moveBy setLevel moved levelled inRange isRunning isFree openFor roomFor numberBy openBy effectFrom accepted objectGiven query afterRefusal after start processGains objectGains assign enter carry carryBy entered account history decimalIn levelText callLine callsOf callLines setupLine shortLine printed
 everything = 0
 
 -- the combined answer, and the number, of each call of a list
-unfoldable pub answersFrom : Facility → List Call → List Answer
+unfoldable pub combinedAnswers : Facility → List Call → List Answer
 unfolding everything
-answersFrom f [] = []
-answersFrom f (c ∷ cs) = answersOf (query f c) .combined ∷ answersFrom (after f c) cs
+combinedAnswers f [] = []
+combinedAnswers f (c ∷ cs) = answersOf (query f c) .combined ∷ combinedAnswers (after f c) cs
 
 unfoldable pub numbersFrom : Facility → List Call → List ℕ
 unfolding everything

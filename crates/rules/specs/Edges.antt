@@ -4,7 +4,7 @@ use mathlib.Core.Path.{_≡_, refl}
 use mathlib.Core.List.{List, [], _∷_, _++_}
 use Rattle.rules.specs.Types.{Answer, NotCared, Granted, NotGranted, Undefined, Call}
 use Rattle.state.specs.Answers.{combine}
-use Rattle.rules.specs.Computed.{everything, answersFrom, call, switches, user, object}
+use Rattle.rules.specs.Computed.{everything, combinedAnswers, call, switches, user, object}
 use Rattle.rules.specs.Setup.{fresh}
 
 -- MAC on alone, an untrusted user of clearance 2, file 0 of level 0, file 1 of level 1, file 2 of level 2, file 3 of level 3
@@ -36,7 +36,7 @@ cloneWriteOpen t = call 20 1 t 0
 
 -- the combined answer of each call of a list in the yard
 abbrev pub inYard : List Call → List Answer
-inYard cs = answersFrom (fresh yard) cs
+inYard cs = combinedAnswers (fresh yard) cs
 
 pub edges :
     -- clearance 2, fresh process: read-open of level 2 granted
@@ -71,5 +71,5 @@ pub edges :
     ∷ (Granted ∷ [])
     ∷ (Granted ∷ Granted ∷ Granted ∷ Granted ∷ NotGranted ∷ [])
     ∷ []
-unfolding everything answersFrom
+unfolding everything combinedAnswers
 edges = refl

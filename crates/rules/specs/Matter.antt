@@ -7,7 +7,7 @@ use Rattle.rules.specs.Types.{Call, Facility}
 use Rattle.state.specs.Tests.{_and_, _or_}
 use Rattle.state.specs.State.{objectOf}
 use Rattle.rules.specs.Calls.{accepted, after}
-use Rattle.rules.specs.Requests.{Request, Login, Clone, SendSignal, SetLevel, Terminate, Create, OnObject, Class, Absent, Reads, Writes, Both, NoCondition, requestOf, classOf, inDirectory}
+use Rattle.rules.specs.Requests.{Request, Login, Clone, SendSignal, SetLevel, Terminate, Create, OnObject, Unknown, Class, Absent, Reads, Writes, Both, NoCondition, requestOf, classOf, inDirectory}
 use Rattle.rules.specs.Setup.{fresh}
 
 -- a set of object numbers
@@ -110,6 +110,7 @@ carryBy SetLevel a c = a
 carryBy Terminate a c = a
 carryBy Create a c =
     cond (inDirectory (c .extra)) (enter (objectGains a (c .process) (c .target)) (c .extra)) (enter a (c .extra))
+carryBy Unknown a c = a
 carryBy OnObject a c = carry (classOf (c .request) (a .kinds (c .target))) a c
 
 -- of each call: the four bytes and whether its number is 0

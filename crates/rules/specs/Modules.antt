@@ -5,10 +5,11 @@ use mathlib.Core.Bool.{Bool, not, cond}
 use lib.Dec.{eqb}
 use Rattle.rules.specs.Types.{Answer, NotCared, Granted, NotGranted, Undefined, Answers, Call, Process, User, Object, Facility}
 use Rattle.state.specs.Tests.{_and_, _or_, on}
+use Rattle.state.specs.Outcomes.{answersFrom}
 use Rattle.state.specs.State.{processOf, objectOf, userOf, isAutomatic, opensOf}
 use Rattle.state.specs.Labels.{Label, label, leq, same, join, meet, given}
-use Rattle.state.specs.Answers.{combined3, grant}
-use Rattle.rules.specs.Requests.{Request, Login, Clone, SendSignal, SetLevel, Terminate, Create, OnObject, Class, Absent, Reads, Writes, Both, NoCondition, classOf, alters, inDirectory, needsObject}
+use Rattle.state.specs.Answers.{grant}
+use Rattle.rules.specs.Requests.{Request, Login, Clone, SendSignal, SetLevel, Terminate, Create, OnObject, Unknown, Class, Absent, Reads, Writes, Both, NoCondition, classOf, alters, inDirectory, needsObject}
 
 -- what a call looks at
 abbrev pub viewOf : Facility → Call → View
@@ -61,7 +62,7 @@ macObject k o r u =
 unfoldable pub macSignal : Process → User → Process → Answer
 macSignal r u receiver = grant (on (u .trusted) or same (r .current) (receiver .current))
 
--- N, login, clone, terminate, create of a channel or control data: granted
+-- N, login, clone, terminate, create of a channel or control data: granted. Any other outcome: not granted
 unfoldable pub macRule : Request → View → Call → Answer
 macRule Login v c = Granted
 macRule Clone v c = Granted
@@ -71,6 +72,7 @@ macRule Terminate v c = Granted
 macRule Create v c =
     cond (inDirectory (c .extra)) (macObject (classIn v c) (v .object) (v .caller) (v .owner)) Granted
 macRule OnObject v c = macObject (classIn v c) (v .object) (v .caller) (v .owner)
+macRule Unknown v c = NotGranted
 
 -- FC: unset category undefined; granted if the category is general or matches the role by number; else not granted
 unfoldable pub fcRule : Object → User → Answer
@@ -94,13 +96,7 @@ simAnswer k v c =
     cond (on (v .sim) and needsObject k (c .extra)) (simRule (c .request) (classIn v c) (v .object) (v .owner)) NotCared
 
 unfoldable pub answers : Request → View → Call → Answers
-answers k v c =
-    record {
-      mac = macAnswer k v c;
-      fc = fcAnswer k v c;
-      sim = simAnswer k v c;
-      combined = combined3 (macAnswer k v c) (fcAnswer k v c) (simAnswer k v c);
-    }
+answers k v c = answersFrom (macAnswer k v c) (fcAnswer k v c) (simAnswer k v c)
 
 -- MAC's move of a process by class, on an object with label l.
 -- R: current and read mark become at least L. W: current becomes L, write mark at most L. B: as W, and both marks become L

@@ -1,6 +1,6 @@
 -- "Calls": the requests, and the class of a request by the kind of its object.
 pub use Rattle.rules.specs.declared.Request.{Request}
-pub use Rattle.rules.specs.declared.Request.the-variants.{Login, Clone, SendSignal, SetLevel, Terminate, Create, OnObject}
+pub use Rattle.rules.specs.declared.Request.the-variants.{Login, Clone, SendSignal, SetLevel, Terminate, Create, OnObject, Unknown}
 pub use Rattle.rules.specs.declared.Class.{Class}
 pub use Rattle.rules.specs.declared.Class.the-variants.{Absent, Reads, Writes, Both, NoCondition}
 pub use Rattle.rules.specs.declared.OpenChange.{OpenChange}
@@ -8,18 +8,18 @@ pub use Rattle.rules.specs.declared.OpenChange.the-variants.{Keep, Add, 
 use Prim.Native.Nat.{ℕ}
 use mathlib.Core.Bool.{Bool, true, false, not, cond}
 use mathlib.Core.List.{List, [], _∷_}
-use lib.Dec.{eqb}
+use lib.Dec.{leb, eqb}
 use Rattle.state.specs.Tests.{_or_}
 
 -- the last request number
 abbrev pub lastRequest : ℕ
 lastRequest = 21
 
--- what a request acts on: 2 clone, 4 create, 16 send-signal, 17 set-level, 18 terminate, 21 login; the others act on an object
+-- what a request acts on: 2 clone, 4 create, 16 send-signal, 17 set-level, 18 terminate, 21 login; the others up to 21 act on an object
 unfoldable pub requestOf : ℕ → Request
 requestOf r =
     cond (eqb r 2) Clone (cond (eqb r 4) Create (cond (eqb r 16) SendSignal (cond (eqb r 17) SetLevel
-    (cond (eqb r 18) Terminate (cond (eqb r 21) Login OnObject)))))
+    (cond (eqb r 18) Terminate (cond (eqb r 21) Login (cond (leb r lastRequest) OnObject Unknown))))))
 
 -- Classes by kind: R reads, W writes, B both, N no condition. A line of the paper's list.
 pub record Listed : Type 0 where
@@ -95,6 +95,7 @@ isLogin SetLevel = false
 isLogin Terminate = false
 isLogin Create = false
 isLogin OnObject = false
+isLogin Unknown = false
 
 abbrev pub isClone : Request → Bool
 isClone Login = false
@@ -104,6 +105,7 @@ isClone SetLevel = false
 isClone Terminate = false
 isClone Create = false
 isClone OnObject = false
+isClone Unknown = false
 
 abbrev pub isSendSignal : Request → Bool
 isSendSignal Login = false
@@ -113,6 +115,7 @@ isSendSignal SetLevel = false
 isSendSignal Terminate = false
 isSendSignal Create = false
 isSendSignal OnObject = false
+isSendSignal Unknown = false
 
 abbrev pub isSetLevel : Request → Bool
 isSetLevel Login = false
@@ -122,6 +125,7 @@ isSetLevel SetLevel = true
 isSetLevel Terminate = false
 isSetLevel Create = false
 isSetLevel OnObject = false
+isSetLevel Unknown = false
 
 abbrev pub isCreate : Request → Bool
 isCreate Login = false
@@ -131,6 +135,7 @@ isCreate SetLevel = false
 isCreate Terminate = false
 isCreate Create = true
 isCreate OnObject = false
+isCreate Unknown = false
 
 -- whether an object of kind e is created in a directory: a channel (2) and control data (3) are not
 abbrev pub inDirectory : ℕ → Bool
@@ -145,6 +150,7 @@ needsObject SetLevel e = false
 needsObject Terminate e = false
 needsObject Create e = inDirectory e
 needsObject OnObject e = true
+needsObject Unknown e = false
 
 -- what a request on an object does to the opens: 13 read-open, 14 read&write-open and 20 write-open add their modes, 3 close, 5 delete
 unfoldable pub openChange : ℕ → OpenChange

@@ -98,17 +98,17 @@ unfoldable pub recordNumber : Facility → ℕ → SetupRecord → ℕ
 recordNumber f i r = ask (fits f i r) 15 (ask (room f r) 16 (ask (allowed r) 17 0))
 
 -- the user and the object that a record enters
-abbrev pub userIn : SetupRecord → User
-userIn r = record { clearance = label (r .one); role = r .two; trusted = r .three }
+abbrev pub userEntered : SetupRecord → User
+userEntered r = record { clearance = label (r .one); role = r .two; trusted = r .three }
 
-abbrev pub objectIn : SetupRecord → Object
-objectIn r = record { live = 1; kind = r .one; label = label (r .two); category = r .three; datatype = r .four }
+abbrev pub objectEntered : SetupRecord → Object
+objectEntered r = record { live = 1; kind = r .one; label = label (r .two); category = r .three; datatype = r .four }
 
 -- the facility with one record more
 unfoldable pub enterRecord : Facility → SetupRecord → Facility
 enterRecord f r =
     cond (isSwitches r) (blank (r .one) (r .two) (r .three))
-    (cond (isUserRecord r) (addUser f (userIn r)) (addObject f (objectIn r)))
+    (cond (isUserRecord r) (addUser f (userEntered r)) (addObject f (objectEntered r)))
 
 -- a set-up's outcome and its fresh facility
 pub record Reading : Type 0 where

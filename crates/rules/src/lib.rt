@@ -3,7 +3,7 @@ use state::Object;
 use state::Process;
 use state::User;
 
-// What a request acts on. All requests that are not named here act on an object.
+// What a request acts on. All requests that are not named here act on an object; a number above 21 is no request.
 pub enum Request {
     Login,
     Clone,
@@ -12,6 +12,7 @@ pub enum Request {
     Terminate,
     Create,
     OnObject,
+    Unknown,
 }
 
 // The class of a request by the kind of its object: R, W, B, N, or that the kind does not have the request.

@@ -6,3 +6,4 @@ pub mod Outcomes
 pub mod State
 pub mod Table47
 pub mod Views
+pub mod Loops

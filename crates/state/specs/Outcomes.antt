@@ -12,7 +12,7 @@ use mathlib.Core.Bool.{Bool, cond}
 use lib.Dec.{eqb}
 use borrow.Author.Tests.{eqb-true}
 use Rattle.state.specs.Tests.{_or_, by-test}
-use Rattle.state.specs.Answers.{NotCared}
+use Rattle.state.specs.Answers.{Answer, NotCared, combined3}
 
 -- the numbers by which the modules' combined answer refuses a call
 unfoldable pub denies : ℕ → Bool
@@ -20,6 +20,10 @@ denies n = eqb n 12 or eqb n 13
 
 abbrev pub notCared : Answers
 notCared = record { mac = NotCared; fc = NotCared; sim = NotCared; combined = NotCared }
+
+-- the answers of the three modules, with their combination
+unfoldable pub answersFrom : Answer → Answer → Answer → Answers
+answersFrom m f s = record { mac = m; fc = f; sim = s; combined = combined3 m f s }
 
 -- what a call with this number, these answers and this object comes to
 unfoldable pub outcomeOf : ℕ → Answers → ℕ → Outcome

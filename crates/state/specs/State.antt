@@ -29,35 +29,85 @@ mostOpens = 4096
 abbrev pub mostRefusals : ℕ
 mostRefusals = 4294967295
 
--- What is read off a facility.
-unfoldable pub processOf : Facility → ℕ → Process
-processOf f p =
+-- The parts of a facility: its users, objects and processes.
+pub record Users : Type 0 where
+  pub count : ℕ
+  pub clearances : List ℕ
+  pub roles : List ℕ
+  pub trusts : List ℕ
+
+pub record Objects : Type 0 where
+  pub entered : ℕ
+  pub lives : List ℕ
+  pub kinds : List ℕ
+  pub levels : List ℕ
+  pub categories : List ℕ
+  pub datatypes : List ℕ
+
+pub record Processes : Type 0 where
+  pub runnings : List ℕ
+  pub owners : List ℕ
+  pub currents : List ℕ
+  pub readmarks : List ℕ
+  pub writemarks : List ℕ
+  pub automatics : List ℕ
+
+abbrev pub usersFrom : ℕ → List ℕ → List ℕ → List ℕ → Users
+usersFrom n a b c = record { count = n; clearances = a; roles = b; trusts = c }
+
+abbrev pub objectsFrom : ℕ → List ℕ → List ℕ → List ℕ → List ℕ → List ℕ → Objects
+objectsFrom n a b c d e = record { entered = n; lives = a; kinds = b; levels = c; categories = d; datatypes = e }
+
+abbrev pub processesFrom : List ℕ → List ℕ → List ℕ → List ℕ → List ℕ → List ℕ → Processes
+processesFrom a b c d e f = record { runnings = a; owners = b; currents = c; readmarks = d; writemarks = e; automatics = f }
+
+abbrev pub usersIn : Facility → Users
+usersIn f = usersFrom (f .users) (f .clearances) (f .roles) (f .trusts)
+
+abbrev pub objectsIn : Facility → Objects
+objectsIn f = objectsFrom (f .entered) (f .lives) (f .kinds) (f .levels) (f .categories) (f .datatypes)
+
+abbrev pub processesIn : Facility → Processes
+processesIn f = processesFrom (f .runnings) (f .owners) (f .currents) (f .readmarks) (f .writemarks) (f .automatics)
+
+-- What is read off a facility: process p, object t and user u, out of their arrays.
+unfoldable pub processIn : Processes → ℕ → Process
+processIn x p =
     record {
-      running = at (f .runnings) p;
-      owner = at (f .owners) p;
-      current = label (at (f .currents) p);
-      readmark = label (at (f .readmarks) p);
-      writemark = label (at (f .writemarks) p);
-      automatic = at (f .automatics) p;
+      running = at (x .runnings) p;
+      owner = at (x .owners) p;
+      current = label (at (x .currents) p);
+      readmark = label (at (x .readmarks) p);
+      writemark = label (at (x .writemarks) p);
+      automatic = at (x .automatics) p;
     }
 
-unfoldable pub objectOf : Facility → ℕ → Object
-objectOf f t =
+unfoldable pub objectIn : Objects → ℕ → Object
+objectIn x t =
     record {
-      live = at (f .lives) t;
-      kind = at (f .kinds) t;
-      label = label (at (f .levels) t);
-      category = at (f .categories) t;
-      datatype = at (f .datatypes) t;
+      live = at (x .lives) t;
+      kind = at (x .kinds) t;
+      label = label (at (x .levels) t);
+      category = at (x .categories) t;
+      datatype = at (x .datatypes) t;
     }
 
-unfoldable pub userOf : Facility → ℕ → User
-userOf f u =
+unfoldable pub userIn : Users → ℕ → User
+userIn x u =
     record {
-      clearance = label (at (f .clearances) u);
-      role = at (f .roles) u;
-      trusted = at (f .trusts) u;
+      clearance = label (at (x .clearances) u);
+      role = at (x .roles) u;
+      trusted = at (x .trusts) u;
     }
+
+abbrev pub processOf : Facility → ℕ → Process
+processOf f p = processIn (processesIn f) p
+
+abbrev pub objectOf : Facility → ℕ → Object
+objectOf f t = objectIn (objectsIn f) t
+
+abbrev pub userOf : Facility → ℕ → User
+userOf f u = userIn (usersIn f) u
 
 -- whether process p runs, object t is live, u is a user, and u is a trusted one
 abbrev pub runs : Facility → ℕ → Bool
@@ -114,54 +164,6 @@ closeProcess l p = build mostOpens (λ i. cond (eqb (i / mostObjects) p) 0 (at l
 unfoldable pub copyProcess : List ℕ → ℕ → ℕ → List ℕ
 copyProcess l p t = build mostOpens (λ i. cond (eqb (i / mostObjects) t) (at l (place p (i % mostObjects))) (at l i))
 
--- The parts of a facility, so that a change names only the part that it changes.
-pub record Users : Type 0 where
-  pub count : ℕ
-  pub clearances : List ℕ
-  pub roles : List ℕ
-  pub trusts : List ℕ
-
-pub record Objects : Type 0 where
-  pub entered : ℕ
-  pub lives : List ℕ
-  pub kinds : List ℕ
-  pub levels : List ℕ
-  pub categories : List ℕ
-  pub datatypes : List ℕ
-
-pub record Processes : Type 0 where
-  pub runnings : List ℕ
-  pub owners : List ℕ
-  pub currents : List ℕ
-  pub readmarks : List ℕ
-  pub writemarks : List ℕ
-  pub automatics : List ℕ
-
-abbrev pub usersIn : Facility → Users
-usersIn f = record { count = f .users; clearances = f .clearances; roles = f .roles; trusts = f .trusts }
-
-abbrev pub objectsIn : Facility → Objects
-objectsIn f =
-    record {
-      entered = f .entered;
-      lives = f .lives;
-      kinds = f .kinds;
-      levels = f .levels;
-      categories = f .categories;
-      datatypes = f .datatypes;
-    }
-
-abbrev pub processesIn : Facility → Processes
-processesIn f =
-    record {
-      runnings = f .runnings;
-      owners = f .owners;
-      currents = f .currents;
-      readmarks = f .readmarks;
-      writemarks = f .writemarks;
-      automatics = f .automatics;
-    }
-
 -- the facility with f's switches and these parts
 abbrev pub with : Facility → Users → Objects → Processes → List ℕ → ℕ → Facility
 with f us os ps opens refusals =
@@ -207,8 +209,8 @@ unfoldable pub putOpens : Facility → List ℕ → Facility
 putOpens f l = with f (usersIn f) (objectsIn f) (processesIn f) l (f .refusals)
 
 -- the user with the next number
-unfoldable pub addUser : Facility → User → Facility
-addUser f u =
+unfoldable pub putUser : Facility → User → Facility
+putUser f u =
     with f
     (record {
       count = f .users + 1;
@@ -219,8 +221,8 @@ addUser f u =
     (objectsIn f) (processesIn f) (f .opens) (f .refusals)
 
 -- the object with the next number
-unfoldable pub addObject : Facility → Object → Facility
-addObject f o =
+unfoldable pub putObject : Facility → Object → Facility
+putObject f o =
     with f (usersIn f)
     (record {
       entered = f .entered + 1;
@@ -231,6 +233,13 @@ addObject f o =
       datatypes = set (f .datatypes) (f .entered) (o .datatype);
     })
     (processesIn f) (f .opens) (f .refusals)
+
+-- one more user, and one more object, where there is room
+unfoldable pub addUser : Facility → User → Facility
+addUser f u = cond (ltb (f .users) mostUsers) (putUser f u) f
+
+unfoldable pub addObject : Facility → Object → Facility
+addObject f o = cond (ltb (f .entered) mostObjects) (putObject f o) f
 
 -- a deleted object keeps its number and what else it had
 unfoldable pub dropObject : Facility → ℕ → Facility
@@ -265,6 +274,22 @@ freshProcess u =
 unfoldable pub noProcess : Process
 noProcess =
     record { running = 0; owner = 0; current = bottom; readmark = bottom; writemark = bottom; automatic = 0 }
+
+-- What requests make of a facility: process t becomes a clone of p; p opens t in the modes m; p closes t; t is deleted; p terminates.
+abbrev pub cloned : Facility → ℕ → ℕ → Facility
+cloned f p t = putOpens (putProcess f t (processOf f p)) (copyProcess (f .opens) p t)
+
+abbrev pub opened : Facility → ℕ → ℕ → ℕ → Facility
+opened f p t m = putOpens f (set (f .opens) (place p t) (addModes (opensOf f p t) m))
+
+abbrev pub closed : Facility → ℕ → ℕ → Facility
+closed f p t = putOpens f (set (f .opens) (place p t) 0)
+
+abbrev pub deleted : Facility → ℕ → Facility
+deleted f t = dropObject (putOpens f (closeObject (f .opens) t)) t
+
+abbrev pub terminated : Facility → ℕ → Facility
+terminated f p = putOpens (putProcess f p noProcess) (closeProcess (f .opens) p)
 
 -- with these switches: no user, no object, no process, no refusal
 unfoldable pub blank : ℕ → ℕ → ℕ → Facility

@@ -1,14 +1,15 @@
 -- What each way of changing a facility does to what is read off it.
-use Prim.Native.Nat.{ℕ, zero, suc, _+_, _/_, _%_, _<_}
+use Prim.Native.Nat.{ℕ, zero, suc, _+_, _/_, _%_, _≤_, _<_}
 use mathlib.Core.Path.{_≡_, refl, ap}
 use mathlib.Core.Logic.{_≢_}
 use mathlib.Core.Bool.{Bool, true, false, cond}
 use mathlib.Core.List.{List}
 use lib.ListN.{length, set, length-set}
-use lib.Seq.{getD-set-same, getD-set-other}
+use lib.Seq.{getD-set-same, getD-set-other, set-out}
 use native.Mathlib.Omega.{arith}
+use borrow.Author.Tests.{lt-ltb}
 use Rattle.state.specs.Tests.{_or_, at}
-use Rattle.state.specs.State.{Facility, Process, Object, User, mostUsers, mostProcesses, mostObjects, mostOpens, processOf, objectOf, userOf, place, reading, writing, addModes, build, Users, Objects, Processes, usersIn, objectsIn, processesIn, putProcess, putOpens, addUser, addObject, dropObject, putRefusals}
+use Rattle.state.specs.State.{Facility, Process, Object, User, mostUsers, mostProcesses, mostObjects, mostOpens, Users, Objects, Processes, objectsFrom, processesFrom, usersIn, objectsIn, processesIn, processIn, objectIn, userIn, processOf, objectOf, userOf, place, reading, writing, addModes, build, with, putProcess, putOpens, putUser, putObject, addUser, addObject, dropObject, putRefusals}
 use Rattle.state.specs.Labels.{label}
 
 -- the arrays have their lengths
@@ -46,7 +47,7 @@ at-other l i j v h = getD-set-other l i j v 0 h
 
 -- the process that was put is read back, and no other is touched
 pub process-same : (f : Facility) (p : ℕ) (r : Process) → Shaped f → p < mostProcesses → processOf (putProcess f p r) p ≡ r
-unfolding processOf putProcess
+unfolding processIn putProcess
 process-same f p r s h =
     let l = s .processes in
     λ i. record {
@@ -59,7 +60,7 @@ process-same f p r s h =
     }
 
 pub process-other : (f : Facility) (p q : ℕ) (r : Process) → q ≢ p → processOf (putProcess f p r) q ≡ processOf f q
-unfolding processOf putProcess
+unfolding processIn putProcess
 process-other f p q r h =
     λ i. record {
       running = at-other (f .runnings) p q (r .running) h i;
@@ -71,8 +72,8 @@ process-other f p q r h =
     }
 
 -- so with a new user and a new object
-pub user-new : (f : Facility) (u : User) → Shaped f → f .users < mostUsers → userOf (addUser f u) (f .users) ≡ u
-unfolding userOf addUser
+pub user-new : (f : Facility) (u : User) → Shaped f → f .users < mostUsers → userOf (putUser f u) (f .users) ≡ u
+unfolding userIn putUser
 user-new f u s h =
     let l = s .users in
     λ i. record {
@@ -81,8 +82,8 @@ user-new f u s h =
       trusted = at-same (f .trusts) (f .users) (u .trusted) mostUsers (l .trusts) h i;
     }
 
-pub user-old : (f : Facility) (u : User) (v : ℕ) → v ≢ f .users → userOf (addUser f u) v ≡ userOf f v
-unfolding userOf addUser
+pub user-old : (f : Facility) (u : User) (v : ℕ) → v ≢ f .users → userOf (putUser f u) v ≡ userOf f v
+unfolding userIn putUser
 user-old f u v h =
     λ i. record {
       clearance = label (at-other (f .clearances) (f .users) v (u .clearance .level) h i);
@@ -90,8 +91,8 @@ user-old f u v h =
       trusted = at-other (f .trusts) (f .users) v (u .trusted) h i;
     }
 
-pub object-new : (f : Facility) (o : Object) → Shaped f → f .entered < mostObjects → objectOf (addObject f o) (f .entered) ≡ o
-unfolding objectOf addObject
+pub object-new : (f : Facility) (o : Object) → Shaped f → f .entered < mostObjects → objectOf (putObject f o) (f .entered) ≡ o
+unfolding objectIn putObject
 object-new f o s h =
     let l = s .objects in
     λ i. record {
@@ -102,8 +103,8 @@ object-new f o s h =
       datatype = at-same (f .datatypes) (f .entered) (o .datatype) mostObjects (l .datatypes) h i;
     }
 
-pub object-old : (f : Facility) (o : Object) (t : ℕ) → t ≢ f .entered → objectOf (addObject f o) t ≡ objectOf f t
-unfolding objectOf addObject
+pub object-old : (f : Facility) (o : Object) (t : ℕ) → t ≢ f .entered → objectOf (putObject f o) t ≡ objectOf f t
+unfolding objectIn putObject
 object-old f o t h =
     λ i. record {
       live = at-other (f .lives) (f .entered) t (o .live) h i;
@@ -112,6 +113,15 @@ object-old f o t h =
       category = at-other (f .categories) (f .entered) t (o .category) h i;
       datatype = at-other (f .datatypes) (f .entered) t (o .datatype) h i;
     }
+
+-- where there is room, a user or an object more is put
+pub add-user : (f : Facility) (u : User) → f .users < mostUsers → addUser f u ≡ putUser f u
+unfolding addUser
+add-user f u h = rw (lt-ltb _ _ h)
+
+pub add-object : (f : Facility) (o : Object) → f .entered < mostObjects → addObject f o ≡ putObject f o
+unfolding addObject
+add-object f o h = rw (lt-ltb _ _ h)
 
 -- the lengths stay
 pub shaped-process : (f : Facility) (p : ℕ) (r : Process) → Shaped f → Shaped (putProcess f p r)
@@ -136,8 +146,8 @@ pub shaped-opens : (f : Facility) (l : List ℕ) → length l ≡ mostOpens → 
 unfolding putOpens
 shaped-opens f l e s = record { users = s .users; objects = s .objects; processes = s .processes; opens = e }
 
-pub shaped-user : (f : Facility) (u : User) → Shaped f → Shaped (addUser f u)
-unfolding addUser
+pub shaped-user : (f : Facility) (u : User) → Shaped f → Shaped (putUser f u)
+unfolding putUser
 shaped-user f u s =
     let l = s .users in
     record {
@@ -151,8 +161,8 @@ shaped-user f u s =
       opens = s .opens;
     }
 
-pub shaped-object : (f : Facility) (o : Object) → Shaped f → Shaped (addObject f o)
-unfolding addObject
+pub shaped-object : (f : Facility) (o : Object) → Shaped f → Shaped (putObject f o)
+unfolding putObject
 shaped-object f o s =
     let l = s .objects in
     record {
@@ -233,3 +243,32 @@ reading-add v m = read-bit (reading v or reading m) (writing v or writing m)
 pub writing-add : (v m : ℕ) → writing (addModes v m) ≡ (writing v or writing m)
 unfolding addModes
 writing-add v m = write-bit (reading v or reading m) (writing v or writing m)
+
+-- a number that is none changes nothing
+pub process-out : (f : Facility) (p : ℕ) (r : Process) → ProcessesShaped (processesIn f) → mostProcesses ≤ p → putProcess f p r ≡ f
+unfolding putProcess
+process-out f p r s h =
+    λ i. with f (usersIn f) (objectsIn f)
+    (processesFrom
+    (out (f .runnings) (r .running) (s .runnings) i)
+    (out (f .owners) (r .owner) (s .owners) i)
+    (out (f .currents) (r .current .level) (s .currents) i)
+    (out (f .readmarks) (r .readmark .level) (s .readmarks) i)
+    (out (f .writemarks) (r .writemark .level) (s .writemarks) i)
+    (out (f .automatics) (r .automatic) (s .automatics) i))
+    (f .opens) (f .refusals)
+  where
+    out : (l : List ℕ) (v : ℕ) → length l ≡ mostProcesses → set l p v ≡ l
+    out l v e = set-out l p v (omega arith)
+
+pub opens-out : (f : Facility) (n v : ℕ) → length (f .opens) ≡ mostOpens → mostOpens ≤ n → putOpens f (set (f .opens) n v) ≡ f
+unfolding putOpens
+opens-out f n v e h =
+    λ i. with f (usersIn f) (objectsIn f) (processesIn f) (set-out (f .opens) n v (omega arith) i) (f .refusals)
+
+pub drop-out : (f : Facility) (t : ℕ) → length (f .lives) ≡ mostObjects → mostObjects ≤ t → dropObject f t ≡ f
+unfolding dropObject
+drop-out f t e h =
+    λ i. with f (usersIn f)
+    (objectsFrom (f .entered) (set-out (f .lives) t 0 (omega arith) i) (f .kinds) (f .levels) (f .categories) (f .datatypes))
+    (processesIn f) (f .opens) (f .refusals)

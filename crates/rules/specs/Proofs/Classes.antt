@@ -3,12 +3,12 @@ use Prim.Native.Nat.{ℕ}
 use mathlib.Core.Path.{_≡_, refl}
 use mathlib.Core.Logic.{_≢_}
 use mathlib.Core.Bool.{Bool, true, not}
-use lib.Dec.{eqb}
+use lib.Dec.{leb, eqb}
 use native.Mathlib.Omega.{arith}
 use borrow.Author.Tests.{eqb-true, ne-eqb}
 use Rattle.state.specs.Tests.{_or_, at, clash, by-test, by-eq}
 use Rattle.state.specs.State.{reading, writing}
-use Rattle.rules.specs.Requests.{Create, Class, Absent, Reads, Writes, Both, NoCondition, Add, requestOf, files, directories, channels, controlData, listOf, classAmong, classOf, isAbsent, observes, alters, openChange}
+use Rattle.rules.specs.Requests.{Create, Class, Absent, Reads, Writes, Both, NoCondition, Add, lastRequest, requestOf, files, directories, channels, controlData, listOf, classAmong, classOf, isAbsent, observes, alters, openChange}
 
 -- what holds of a request's class in each column, and where there is none, holds for every kind
 pub row : (P : Class → Bool) (r : ℕ) → P Absent ≡ true → P (classOf r 0) ≡ true → P (classOf r 1) ≡ true → P (classOf r 2) ≡ true → P (classOf r 3) ≡ true
@@ -45,7 +45,8 @@ request-create r e =
     by-test (eqb r 16) (λ h. cc) (λ h16.
     by-test (eqb r 17) (λ h. cc) (λ h17.
     by-test (eqb r 18) (λ h. cc) (λ h18.
-    by-test (eqb r 21) (λ h. cc) (λ h21. cc))))))
+    by-test (eqb r 21) (λ h. cc) (λ h21.
+    by-test (leb r lastRequest) (λ h. cc) (λ hl. cc)))))))
 
 -- the requests that open, and what they add
 pub add-cases {ℓ} : (r m : ℕ) {A : Type ℓ} → openChange r ≡ Add m → (r ≡ 13 → m ≡ 1 → A) → (r ≡ 14 → m ≡ 3 → A) → (r ≡ 20 → m ≡ 2 → A) → A

@@ -6,36 +6,42 @@ use mathlib.Core.List.{List, [], _∷_}
 use lib.Dec.{ltb, eqb}
 use native.Mathlib.Omega.{arith}
 use borrow.Author.Tests.{ltb-true, ltb-false, eqb-true}
-use Rattle.rules.specs.Types.{Call, Facility}
+use Rattle.rules.specs.Types.{Call, Object, Facility}
 use Rattle.state.specs.Tests.{by-test}
 use Rattle.state.specs.Outcomes.{denies, numberOf}
-use Rattle.state.specs.State.{mostRefusals, putProcess, putOpens, addObject, dropObject, putRefusals, oneMore, counted}
-use Rattle.rules.specs.Effects.{dropBy, effectBy}
+use Rattle.state.specs.State.{mostObjects, mostRefusals, putProcess, putOpens, putObject, addObject, dropObject, putRefusals, oneMore, counted}
+use Rattle.rules.specs.Effects.{openBy, effectFrom, effectBy}
 use Rattle.rules.specs.Calls.{accepted, query, afterRefusal, after, run, outcomes}
-use Rattle.rules.specs.Requests.{Request, Login, Clone, SendSignal, SetLevel, Terminate, Create, OnObject, OpenChange, Keep, Add, Close, CloseAll, requestOf, inDirectory, openChange}
+use Rattle.rules.specs.Requests.{Request, Login, Clone, SendSignal, SetLevel, Terminate, Create, OnObject, Unknown, OpenChange, Keep, Add, Close, CloseAll, requestOf, inDirectory, openChange}
 use Rattle.rules.specs.Setup.{fresh}
 use Rattle.rules.specs.Promises.{denialsIn, CounterCounts}
 use Rattle.rules.specs.Questions.{number}
 use Rattle.rules.specs.Proofs.Fresh.{fresh-setup}
 use Rattle.rules.specs.Proofs.Refusals.{not-denied, query-number}
 
-drop-refusals : (o : OpenChange) (f : Facility) (t : ℕ) → (dropBy o f t) .refusals ≡ f .refusals
-unfolding dropBy dropObject
-drop-refusals Keep f t = refl
-drop-refusals (Add m) f t = refl
-drop-refusals Close f t = refl
-drop-refusals CloseAll f t = refl
+open-refusals : (o : OpenChange) (f : Facility) (p t : ℕ) → (openBy o f p t) .refusals ≡ f .refusals
+unfolding openBy putOpens dropObject
+open-refusals Keep f p t = refl
+open-refusals (Add m) f p t = refl
+open-refusals Close f p t = refl
+open-refusals CloseAll f p t = refl
+
+add-refusals : (f : Facility) (o : Object) → (addObject f o) .refusals ≡ f .refusals
+unfolding addObject putObject
+add-refusals f o = by-test (ltb (f .entered) mostObjects) (λ e. rw e) (λ e. rw e)
 
 -- an accepted call leaves the counter
 effect-refusals : (k : Request) (f : Facility) (c : Call) → (effectBy k f c) .refusals ≡ f .refusals
-unfolding effectBy putProcess putOpens addObject
+unfolding effectFrom putProcess putOpens
 effect-refusals Login f c = refl
 effect-refusals Clone f c = refl
 effect-refusals SendSignal f c = refl
+effect-refusals Unknown f c = refl
 effect-refusals SetLevel f c = refl
 effect-refusals Terminate f c = refl
-effect-refusals Create f c = by-test (inDirectory (c .extra)) (λ e. rw e) (λ e. rw e)
-effect-refusals OnObject f c = drop-refusals (openChange (c .request)) _ (c .target)
+effect-refusals Create f c =
+    by-test (inDirectory (c .extra)) (λ e. rw e (add-refusals (putProcess f (c .process) _) _)) (λ e. rw e (add-refusals f _))
+effect-refusals OnObject f c = open-refusals (openChange (c .request)) (putProcess f (c .process) _) (c .process) (c .target)
 
 -- one call more
 capped : (n : ℕ) → n ≤ mostRefusals → oneMore n ≡ min (n + 1) mostRefusals

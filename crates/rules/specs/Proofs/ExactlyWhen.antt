@@ -10,11 +10,12 @@ use borrow.Author.Tests.{ltb-true, lt-ltb, eq-eqb}
 use Rattle.rules.specs.Types.{Granted, Call, Facility}
 use Rattle.state.specs.Tests.{_and_, on, and-i, or-r, by-test, by-eq}
 use Rattle.state.specs.Views.{process-same, shaped-process}
-use Rattle.state.specs.State.{objectOf, userOf, trustedUser, labelOf, clearanceOf, reading, writing, putProcess, freshProcess}
+use Rattle.state.specs.Outcomes.{answersFrom}
+use Rattle.state.specs.State.{objectOf, trustedUser, labelOf, clearanceOf, reading, writing, putProcess, freshProcess}
 use Rattle.state.specs.Labels.{lawful, given, _⊑_, ⊑-refl, join-least, bottom-least, below-lawful, lawful-given}
 use Rattle.state.specs.Answers.{passes, grant-passes}
 use Rattle.rules.specs.Flow.{allFourBytes, Carries, ExactlyWhen}
-use Rattle.rules.specs.Effects.{effectBy}
+use Rattle.rules.specs.Effects.{effectFrom, effectBy}
 use Rattle.rules.specs.Calls.{accepted, trustedLogins}
 use Rattle.rules.specs.Requests.{Login, Reads, Writes, Both, NoCondition, Keep, Add, requestOf, files, directories, channels, controlData, listOf, classAmong, classOf, openChange}
 use Rattle.rules.specs.Setup.{fresh}
@@ -120,7 +121,7 @@ module _ (f₀ : Facility) (F : Fresh f₀) (u x y : ℕ) (hx : x < f₀ .entere
       (record { target = refl; known = refl; alive = F .whole x hx; class = rw e refl; there = refl; opened = refl; labelled = gx; granted = may-read })
       refl refl (by 0 12 x ∷ rest) y x
       (λ S1. reach-target 0 f₀ _ _ u _ 12 x NoCondition Keep S1
-      (record { target = refl; known = refl; alive = F .whole x hx; class = rw e refl; there = refl; opened = open-to-read 0 f _ 13 x 1 (S .shaped) (S .small) small-x refl; labelled = gx; granted = refl })
+      (record { target = refl; known = refl; alive = F .whole x hx; class = rw e refl; there = refl; opened = open-to-read 0 f _ x 1 (S .shaped) (S .small) small-x refl; labelled = gx; granted = refl })
       refl refl rest y x
       (λ S2. K _ _ S2 (carry-takes 0 _ 12 x NoCondition x refl (carry-keeps-object 0 a 13 x Reads x x self))))))
       (λ n0. by-eq ((objectOf f₀ x) .kind) 1
@@ -147,7 +148,7 @@ module _ (f₀ : Facility) (F : Fresh f₀) (u x y : ℕ) (hx : x < f₀ .entere
       (record { target = refl; known = refl; alive = F .whole y hy; class = rw e refl; there = refl; opened = refl; labelled = gy; granted = grant-passes _ may-write })
       refl refl (by 0 19 y ∷ []) y x
       (λ S1. reach-target 0 f₀ _ _ u _ 19 y NoCondition Keep S1
-      (record { target = refl; known = refl; alive = F .whole y hy; class = rw e refl; there = refl; opened = open-to-write 0 f _ 20 y 2 (S .shaped) (S .small) small-y refl; labelled = gy; granted = refl })
+      (record { target = refl; known = refl; alive = F .whole y hy; class = rw e refl; there = refl; opened = open-to-write 0 f _ y 2 (S .shaped) (S .small) small-y refl; labelled = gy; granted = refl })
       refl refl [] y x
       (λ S2. record { untrusted = refl; holding = carry-gives 0 _ 19 y NoCondition x refl refl (carry-keeps 0 a 20 y Writes x has) }))))
       (λ n0. by-eq ((objectOf f₀ y) .kind) 1
@@ -162,7 +163,7 @@ module _ (f₀ : Facility) (F : Fresh f₀) (u x y : ℕ) (hx : x < f₀ .entere
       (record { target = refl; known = refl; alive = F .whole y hy; class = rw e refl; there = refl; opened = refl; labelled = gy; granted = grant-passes _ may-write })
       refl refl (by 0 19 y ∷ []) y x
       (λ S1. reach-target 0 f₀ _ _ u _ 19 y NoCondition Keep S1
-      (record { target = refl; known = refl; alive = F .whole y hy; class = rw e refl; there = refl; opened = open-to-write 0 f _ 14 y 3 (S .shaped) (S .small) small-y refl; labelled = gy; granted = refl })
+      (record { target = refl; known = refl; alive = F .whole y hy; class = rw e refl; there = refl; opened = open-to-write 0 f _ y 3 (S .shaped) (S .small) small-y refl; labelled = gy; granted = refl })
       refl refl [] y x
       (λ S2. record { untrusted = refl; holding = carry-gives 0 _ 19 y NoCondition x refl refl (carry-keeps 0 a 14 y Both x has) }))))
       (λ n2. let e : (objectOf f₀ y) .kind ≡ 3 = omega (arith, kind-y) in
@@ -174,7 +175,7 @@ module _ (f₀ : Facility) (F : Fresh f₀) (u x y : ℕ) (hx : x < f₀ .entere
 
   module _ (m : on (f₀ .mac) ≡ true) (fc : on (f₀ .fc) ≡ false) (sim : on (f₀ .sim) ≡ false) where
     login-combined : answers Login (viewOf f₀ (login u)) (login u) .combined ≡ Granted
-    unfolding answers macAnswer fcAnswer simAnswer macRule _and_
+    unfolding answers answersFrom macAnswer fcAnswer simAnswer macRule _and_
     login-combined = rw (m, fc, sim)
 
     login-number : numberBy Login (viewOf f₀ (login u)) (login u) ≡ 0
@@ -205,7 +206,7 @@ module _ (f₀ : Facility) (F : Fresh f₀) (u x y : ℕ) (hx : x < f₀ .entere
     login-accepted = rw login-number
 
     login-scene : Scene 0 f₀ (effectBy Login f₀ (login u)) (carryBy Login (start f₀) (login u)) u (freshProcess u)
-    unfolding effectBy carryBy assign start login putProcess objectOf userOf freshProcess
+    unfolding effectFrom carryBy assign start login putProcess freshProcess
     login-scene =
         record {
           small = omega arith;

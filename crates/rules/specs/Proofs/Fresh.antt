@@ -8,9 +8,9 @@ use native.Mathlib.Omega.{arith}
 use borrow.Author.Tests.{eqb-true}
 use Rattle.rules.specs.Types.{User, Object, Facility}
 use Rattle.state.specs.Tests.{_and_, on, by-test, by-eq}
-use Rattle.state.specs.Views.{object-new, object-old}
-use Rattle.state.specs.State.{mostUsers, mostObjects, processOf, objectOf, runs, live, opensOf, addUser, addObject, noProcess, blank}
-use Rattle.rules.specs.Setup.{SetupRecord, sized, switchesAllowed, userAllowed, objectAllowed, recordNumber, enterRecord, enterAll, readSetup, switchesRecord, userRecord, objectRecord}
+use Rattle.state.specs.Views.{object-new, object-old, add-user, add-object}
+use Rattle.state.specs.State.{mostUsers, mostObjects, runs, live, opensOf, putUser, putObject, noProcess, blank}
+use Rattle.rules.specs.Setup.{SetupRecord, sized, switchesAllowed, userAllowed, objectAllowed, recordNumber, userEntered, objectEntered, enterRecord, enterAll, readSetup, switchesRecord, userRecord, objectRecord}
 use Rattle.rules.specs.Proofs.Regular.{Regular, regular-user, regular-object, none-lawful}
 use Rattle.rules.specs.Proofs.Sound.{sound-blank, blank-closed, blank-process}
 use Rattle.rules.specs.Proofs.Records.{switches-record, user-record, object-record, Accepts, as-switches, as-user, as-object, accepts}
@@ -55,8 +55,8 @@ pub fresh-refused : Fresh (blank 0 0 0)
 unfolding blank switchesAllowed _and_
 fresh-refused = fresh-blank 0 0 0 refl
 
-fresh-user : (f : Facility) (u : User) → Fresh f → f .users < mostUsers → userAllowed (userRecord u) ≡ true → Fresh (addUser f u)
-unfolding addUser objectOf processOf opensOf
+fresh-user : (f : Facility) (u : User) → Fresh f → f .users < mostUsers → userAllowed (userRecord u) ≡ true → Fresh (putUser f u)
+unfolding putUser opensOf
 fresh-user f u F h a =
     record {
       regular = regular-user f u (F .regular) h a;
@@ -67,14 +67,14 @@ fresh-user f u F h a =
     }
 
 fresh-object : (f : Facility) (o : Object) → Fresh f → f .entered < mostObjects → objectAllowed (objectRecord o) ≡ true → on (o .live) ≡ true
-    → Fresh (addObject f o)
-unfolding addObject processOf opensOf
+    → Fresh (putObject f o)
+unfolding putObject opensOf
 fresh-object f o F h a v =
     record {
       regular = regular-object f o (F .regular) h a;
       whole = λ t b.
           by-eq t (f .entered)
-          (λ e. subst⁻¹ (λ (k : ℕ). live (addObject f o) k ≡ true) e (rw (object-new f o (F .regular .sound .shaped) h) v))
+          (λ e. subst⁻¹ (λ (k : ℕ). live (putObject f o) k ≡ true) e (rw (object-new f o (F .regular .sound .shaped) h) v))
           (λ n. rw (object-old f o t n) (F .whole t (omega arith)));
       stopped = F .stopped;
       closed = F .closed;
@@ -86,9 +86,9 @@ unfolding enterRecord
 fresh-record f i r F (as-switches z k a) =
     rw k (fresh-blank _ _ _ (subst⁻¹ (λ (x : SetupRecord). switchesAllowed x ≡ true) (switches-record r k a) a))
 fresh-record f i r F (as-user z k3 k1 e h a) =
-    rw (k3, k1) (fresh-user f _ F h (subst⁻¹ (λ (x : SetupRecord). userAllowed x ≡ true) (user-record r k1 a) a))
+    rw (k3, k1, add-user f (userEntered r) h) (fresh-user f _ F h (subst⁻¹ (λ (x : SetupRecord). userAllowed x ≡ true) (user-record r k1 a) a))
 fresh-record f i r F (as-object z k3 k1 k2 h a) =
-    rw (k3, k1) (fresh-object f _ F h (subst⁻¹ (λ (x : SetupRecord). objectAllowed x ≡ true) (object-record r k2 a) a) refl)
+    rw (k3, k1, add-object f (objectEntered r) h) (fresh-object f _ F h (subst⁻¹ (λ (x : SetupRecord). objectAllowed x ≡ true) (object-record r k2 a) a) refl)
 
 fresh-all : (i : ℕ) (f : Facility) (rs : List SetupRecord) → Fresh f → Fresh ((enterAll i f rs) .facility)
 unfolding enterAll

@@ -12,7 +12,7 @@ use borrow.Author.Tests.{eqb-true, eq-eqb, ne-eqb}
 use Rattle.rules.specs.Types.{Process, Object, Facility}
 use Rattle.state.specs.Tests.{at, on, or-cases, by-test, by-eq}
 use Rattle.state.specs.Views.{Shaped, process-same, process-other, object-new, object-old}
-use Rattle.state.specs.State.{mostProcesses, mostObjects, mostOpens, processOf, objectOf, userOf, runs, trustedUser, labelOf, place, opensOf, reading, writing, putProcess, putOpens, addObject, dropObject, putRefusals, counted}
+use Rattle.state.specs.State.{mostProcesses, mostObjects, mostOpens, objectIn, processOf, objectOf, runs, trustedUser, labelOf, place, opensOf, reading, writing, putProcess, putOpens, putObject, dropObject, putRefusals, counted}
 use Rattle.state.specs.Labels.{Label, given, _⊑_, ⊑-trans}
 use Rattle.rules.specs.Flow.{Above}
 use Rattle.rules.specs.Matter.{Set, only, put, Account, processGains, objectGains, assign, enter}
@@ -70,7 +70,7 @@ each f p r P s h new old q =
 
 -- a process is replaced
 pub inv-process : (f : Facility) (a : Account) (p : ℕ) (r : Process) → Inv f a → p < mostProcesses → FitsAt f a p r → Inv (putProcess f p r) a
-unfolding putProcess objectOf opensOf userOf
+unfolding putProcess opensOf
 inv-process f a p r I h F =
     record {
       sound = sound-process f p r (I .sound);
@@ -86,7 +86,7 @@ pub inv-opens : (f : Facility) (a : Account) (l : List ℕ) → Inv f a → leng
     → ((p t : ℕ) → t < mostObjects → reading (at l (place p t)) ≡ true → (runs f p ≡ true) × Knows (f .entered) (labelOf f t) t (processOf f p))
     → ((p t : ℕ) → t < mostObjects → writing (at l (place p t)) ≡ true → (runs f p ≡ true) × Reaches (f .entered) (labelOf f t) t (processOf f p))
     → Inv (putOpens f l) a
-unfolding putOpens objectOf opensOf processOf userOf
+unfolding putOpens opensOf
 inv-opens f a l I h R W =
     record {
       sound = sound-opens f l h (I .sound);
@@ -120,7 +120,7 @@ inv-account f a os ps I K H =
 
 -- an object is dropped
 pub inv-drop : (f : Facility) (a : Account) (t : ℕ) → Inv f a → Inv (dropObject f t) a
-unfolding dropObject objectOf opensOf processOf userOf
+unfolding dropObject opensOf objectIn
 inv-drop f a t I =
     record {
       sound = sound-drop f t (I .sound);
@@ -133,7 +133,7 @@ inv-drop f a t I =
 
 -- a refusal is counted
 pub inv-counted : (f : Facility) (a : Account) → Inv f a → Inv (counted f) a
-unfolding counted putRefusals objectOf opensOf processOf userOf
+unfolding counted putRefusals opensOf
 inv-counted f a I =
     record {
       sound = sound-refusals f _ (I .sound);
@@ -208,23 +208,23 @@ inv-assign f a p s I k =
     (I .holds)
 
 -- an object that was entered before keeps its label
-pub level-old : (f : Facility) (o : Object) (c : ℕ) → c < f .entered → labelOf (addObject f o) c ≡ labelOf f c
+pub level-old : (f : Facility) (o : Object) (c : ℕ) → c < f .entered → labelOf (putObject f o) c ≡ labelOf f c
 level-old f o c h = ap (λ (x : Object). x .label) (object-old f o c (omega arith))
 
 knows-enter : (f : Facility) (o : Object) (c : ℕ) (r : Process) → Knows (f .entered) (labelOf f c) c r
-    → Knows (f .entered + 1) (labelOf (addObject f o) c) c r
+    → Knows (f .entered + 1) (labelOf (putObject f o) c) c r
 knows-enter f o c r k =
     let e = level-old f o c (k .inside) in
     record { inside = omega (arith, k .inside); labelled = rw e (k .labelled); below = rw e (k .below) }
 
 reaches-enter : (f : Facility) (o : Object) (t : ℕ) (r : Process) → Reaches (f .entered) (labelOf f t) t r
-    → Reaches (f .entered + 1) (labelOf (addObject f o) t) t r
+    → Reaches (f .entered + 1) (labelOf (putObject f o) t) t r
 reaches-enter f o t r k =
     let e = level-old f o t (k .inside) in
     record { inside = omega (arith, k .inside); labelled = rw e (k .labelled); above = rw e (k .above) }
 
 holds-enter : (f : Facility) (o : Object) (x c : ℕ) → Holds (f .entered) (labelOf f x) (labelOf f c) x c
-    → Holds (f .entered + 1) (labelOf (addObject f o) x) (labelOf (addObject f o) c) x c
+    → Holds (f .entered + 1) (labelOf (putObject f o) x) (labelOf (putObject f o) c) x c
 holds-enter f o x c k =
     record {
       holder = omega (arith, k .holder);
@@ -233,8 +233,8 @@ holds-enter f o x c k =
     }
 
 -- a new object
-pub inv-enter : (f : Facility) (a : Account) (o : Object) → Inv f a → f .entered < mostObjects → Inv (addObject f o) (enter a (o .kind))
-unfolding addObject enter opensOf processOf userOf
+pub inv-enter : (f : Facility) (a : Account) (o : Object) → Inv f a → f .entered < mostObjects → Inv (putObject f o) (enter a (o .kind))
+unfolding putObject enter opensOf
 inv-enter f a o I h =
     record {
       sound = sound-object f o h (I .sound);
@@ -243,7 +243,7 @@ inv-enter f a o I h =
       kinds = λ t b.
           by-eq t (f .entered)
           (λ e. rw (eq-eqb (a .next) t (I .next ∙ sym e))
-          (sym (subst⁻¹ (λ (k : ℕ). (objectOf (addObject f o) k) .kind ≡ o .kind) e (ap (λ (x : Object). x .kind) (object-new f o (I .sound .shaped) h)))))
+          (sym (subst⁻¹ (λ (k : ℕ). (objectOf (putObject f o) k) .kind ≡ o .kind) e (ap (λ (x : Object). x .kind) (object-new f o (I .sound .shaped) h)))))
           (λ n. rw (ne-eqb (a .next) t (λ q. n (sym q ∙ I .next)), object-old f o t n) (I .kinds t (omega arith)));
       process = λ p. let F = I .process p in
           record {

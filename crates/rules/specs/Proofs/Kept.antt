@@ -2,14 +2,15 @@
 use Prim.Native.Nat.{ℕ, _<_}
 use mathlib.Core.Path.{_≡_, refl, _∙_}
 use mathlib.Core.List.{List, [], _∷_}
+use lib.Dec.{ltb}
 use native.Mathlib.Omega.{arith}
 use Rattle.rules.specs.Types.{Call, Object, Facility}
 use Rattle.state.specs.Tests.{by-test}
 use Rattle.state.specs.Outcomes.{denies}
-use Rattle.state.specs.State.{objectOf, labelOf, putProcess, putOpens, addObject, dropObject, putRefusals, counted}
-use Rattle.rules.specs.Effects.{dropBy, effectBy}
+use Rattle.state.specs.State.{mostObjects, objectIn, labelOf, putProcess, putOpens, putObject, addObject, dropObject, putRefusals, counted}
+use Rattle.rules.specs.Effects.{openBy, effectFrom, effectBy}
 use Rattle.rules.specs.Calls.{accepted, afterRefusal, after, run}
-use Rattle.rules.specs.Requests.{Request, Login, Clone, SendSignal, SetLevel, Terminate, Create, OnObject, OpenChange, Keep, Add, Close, CloseAll, requestOf, inDirectory, openChange}
+use Rattle.rules.specs.Requests.{Request, Login, Clone, SendSignal, SetLevel, Terminate, Create, OnObject, Unknown, OpenChange, Keep, Add, Close, CloseAll, requestOf, inDirectory, openChange}
 use Rattle.rules.specs.Questions.{number}
 use Rattle.rules.specs.Proofs.Invariant.{level-old}
 
@@ -22,21 +23,25 @@ kept : (f : Facility) (t : ℕ) → t < f .entered → Kept f f t
 kept f t h = record { inside = h; label = refl }
 
 kept-add : (f : Facility) (o : Object) (t : ℕ) → t < f .entered → Kept f (addObject f o) t
-unfolding addObject
-kept-add f o t h = record { inside = omega arith; label = level-old f o t h }
+unfolding addObject putObject
+kept-add f o t h =
+    by-test (ltb (f .entered) mostObjects)
+    (λ e. rw e (record { inside = omega arith; label = level-old f o t h }))
+    (λ e. rw e (kept f t h))
 
-kept-drop : (o : OpenChange) (f : Facility) (t u : ℕ) → u < f .entered → Kept f (dropBy o f t) u
-unfolding dropBy dropObject objectOf
-kept-drop Keep f t u h = kept f u h
-kept-drop Close f t u h = kept f u h
-kept-drop CloseAll f t u h = record { inside = h; label = refl }
-kept-drop (Add m) f t u h = kept f u h
+kept-open : (o : OpenChange) (f : Facility) (p t u : ℕ) → u < f .entered → Kept f (openBy o f p t) u
+unfolding openBy putOpens dropObject objectIn
+kept-open Keep f p t u h = kept f u h
+kept-open (Add m) f p t u h = record { inside = h; label = refl }
+kept-open Close f p t u h = record { inside = h; label = refl }
+kept-open CloseAll f p t u h = record { inside = h; label = refl }
 
 kept-effect : (k : Request) (f : Facility) (c : Call) (t : ℕ) → t < f .entered → Kept f (effectBy k f c) t
-unfolding effectBy putProcess putOpens objectOf
+unfolding effectFrom putProcess putOpens
 kept-effect Login f c t h = record { inside = h; label = refl }
 kept-effect Clone f c t h = record { inside = h; label = refl }
 kept-effect SendSignal f c t h = kept f t h
+kept-effect Unknown f c t h = kept f t h
 kept-effect SetLevel f c t h = record { inside = h; label = refl }
 kept-effect Terminate f c t h = record { inside = h; label = refl }
 kept-effect Create f c t h =
@@ -44,11 +49,11 @@ kept-effect Create f c t h =
     (λ e. rw e (let K = kept-add (putProcess f (c .process) _) _ t h in record { inside = K .inside; label = K .label }))
     (λ e. rw e (kept-add f _ t h))
 kept-effect OnObject f c t h =
-    let K = kept-drop (openChange (c .request)) (putOpens (putProcess f (c .process) _) _) (c .target) t h in
+    let K = kept-open (openChange (c .request)) (putProcess f (c .process) _) (c .process) (c .target) t h in
     record { inside = K .inside; label = K .label }
 
 counted-kept : (f : Facility) (t : ℕ) → t < f .entered → Kept f (counted f) t
-unfolding counted putRefusals objectOf
+unfolding counted putRefusals
 counted-kept f t h = record { inside = h; label = refl }
 
 kept-after : (f : Facility) (c : Call) (t : ℕ) → t < f .entered → Kept f (after f c) t

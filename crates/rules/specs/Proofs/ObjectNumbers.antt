@@ -1,5 +1,5 @@
 -- Object numbers: proved.
-use Prim.Native.Nat.{ℕ, _+_}
+use Prim.Native.Nat.{ℕ, _+_, _<_}
 use mathlib.Core.Path.{_≡_, refl, _∙_, ap, subst}
 use mathlib.Core.Logic.{_≢_}
 use mathlib.Core.Bool.{Bool, true, false, not, cond}
@@ -7,40 +7,49 @@ use mathlib.Core.List.{List, [], _∷_}
 use lib.Dec.{leb, ltb, eqb}
 use lib.ListN.{length}
 use native.Mathlib.Omega.{arith}
-use borrow.Author.Tests.{ne-eqb}
-use Rattle.rules.specs.Types.{Call, Facility}
+use borrow.Author.Tests.{ltb-true, lt-ltb, ne-eqb}
+use Rattle.rules.specs.Types.{Call, Object, Facility}
 use Rattle.state.specs.Tests.{_and_, asked, ask, at, and-l, by-test}
 use Rattle.state.specs.Outcomes.{denies, outcomeOf, objectNumberOf}
-use Rattle.state.specs.State.{mostObjects, putProcess, putOpens, addObject, dropObject, putRefusals, counted}
+use Rattle.state.specs.State.{mostObjects, putProcess, putOpens, putObject, addObject, dropObject, putRefusals, counted}
 use Rattle.state.specs.Answers.{isNotGranted, isUndefined}
-use Rattle.rules.specs.Effects.{opensBy, dropBy, effectBy}
+use Rattle.rules.specs.Effects.{openBy, effectFrom, effectBy}
 use Rattle.rules.specs.Calls.{accepted, objectGiven, query, afterRefusal, after, run}
-use Rattle.rules.specs.Requests.{Request, Login, Clone, SendSignal, SetLevel, Terminate, Create, OnObject, OpenChange, Keep, Add, Close, CloseAll, requestOf, isSetLevel, isCreate, inDirectory, openChange}
+use Rattle.rules.specs.Requests.{Request, Login, Clone, SendSignal, SetLevel, Terminate, Create, OnObject, Unknown, OpenChange, Keep, Add, Close, CloseAll, requestOf, isSetLevel, isCreate, inDirectory, openChange}
 use Rattle.rules.specs.Setup.{fresh}
 use Rattle.rules.specs.Modules.{View, viewOf, answers, moved}
 use Rattle.rules.specs.Promises.{numbersGiven, upFrom, PassedTo9, ObjectNumbers}
 use Rattle.rules.specs.Questions.{roomFor, numberBy, number}
 use Rattle.rules.specs.Proofs.Regular.{regular-run}
 use Rattle.rules.specs.Proofs.Fresh.{fresh-setup}
+use Rattle.rules.specs.Proofs.Passed.{Passed, passed, accepted-zero}
 
-drop-entered : (o : OpenChange) (f : Facility) (t : ℕ) → (dropBy o f t) .entered ≡ f .entered
-unfolding dropBy dropObject
-drop-entered Keep f t = refl
-drop-entered (Add m) f t = refl
-drop-entered Close f t = refl
-drop-entered CloseAll f t = refl
+open-entered : (o : OpenChange) (f : Facility) (p t : ℕ) → (openBy o f p t) .entered ≡ f .entered
+unfolding openBy putOpens dropObject
+open-entered Keep f p t = refl
+open-entered (Add m) f p t = refl
+open-entered Close f p t = refl
+open-entered CloseAll f p t = refl
+
+add-entered : (f : Facility) (o : Object) → f .entered < mostObjects → (addObject f o) .entered ≡ f .entered + 1
+unfolding addObject putObject
+add-entered f o h = rw (lt-ltb _ _ h)
 
 -- an accepted create enters one object more, every other call none
-effect-entered : (k : Request) (f : Facility) (c : Call) → (effectBy k f c) .entered ≡ f .entered + cond (isCreate k) 1 0
-unfolding effectBy putProcess putOpens addObject
-effect-entered Login f c = omega arith
-effect-entered Clone f c = omega arith
-effect-entered SendSignal f c = omega arith
-effect-entered SetLevel f c = omega arith
-effect-entered Terminate f c = omega arith
-effect-entered Create f c = by-test (inDirectory (c .extra)) (λ e. rw e) (λ e. rw e)
-effect-entered OnObject f c =
-    let e = drop-entered (openChange (c .request)) (putOpens (putProcess f (c .process) (moved (viewOf f c) c)) (opensBy (openChange (c .request)) f c)) (c .target) in
+effect-entered : (k : Request) (f : Facility) (c : Call) → Passed k (viewOf f c) c → (effectBy k f c) .entered ≡ f .entered + cond (isCreate k) 1 0
+unfolding effectFrom putProcess putOpens
+effect-entered Login f c q = omega arith
+effect-entered Clone f c q = omega arith
+effect-entered SendSignal f c q = omega arith
+effect-entered Unknown f c q = omega arith
+effect-entered SetLevel f c q = omega arith
+effect-entered Terminate f c q = omega arith
+effect-entered Create f c q =
+    by-test (inDirectory (c .extra))
+    (λ e. rw e (add-entered (putProcess f (c .process) _) _ (ltb-true _ _ (q .room))))
+    (λ e. rw e (add-entered f _ (ltb-true _ _ (q .room))))
+effect-entered OnObject f c q =
+    let e = open-entered (openChange (c .request)) (putProcess f (c .process) (moved (viewOf f c) c)) (c .process) (c .target) in
     omega arith
 
 refused-entered : (f : Facility) (n : ℕ) → (afterRefusal f n) .entered ≡ f .entered
@@ -55,7 +64,7 @@ call-entered : (f : Facility) (c : Call) → (after f c) .entered ≡ f .entered
 unfolding after _and_
 call-entered f c =
     by-test (accepted f c)
-    (λ h. rw h (effect-entered (requestOf (c .request)) f c))
+    (λ h. rw h (effect-entered (requestOf (c .request)) f c (passed (requestOf (c .request)) (viewOf f c) c (accepted-zero f c h))))
     (λ h. rw h (let e = refused-entered f (number f c) in omega arith))
 
 -- an accepted create returns the next number

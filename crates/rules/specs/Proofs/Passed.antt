@@ -6,6 +6,7 @@ use lib.Dec.{leb, ltb}
 use borrow.Author.Tests.{ltb-true, eqb-true, not-true, lt-ltb}
 use Rattle.rules.specs.Types.{Call, Facility}
 use Rattle.state.specs.Tests.{asked, at, on, and-l, and-r, and-i, ask-yes, ask-later, ask-i}
+use Rattle.state.specs.Outcomes.{answersFrom}
 use Rattle.state.specs.State.{mostProcesses, mostObjects}
 use Rattle.state.specs.Answers.{combine, passes, neither-passes, passes-not-granted, passes-undefined, passes-first}
 use Rattle.rules.specs.Calls.{accepted}
@@ -87,7 +88,7 @@ all-passed k v c q =
 
 -- with MAC on, its rule granted the call
 pub mac-passed : (k : Request) (v : View) (c : Call) → Passed k v c → on (v .mac) ≡ true → passes (macRule k v c) ≡ true
-unfolding answers macAnswer
+unfolding answers answersFrom macAnswer
 mac-passed k v c q m =
     rw m at (passes-first (macAnswer k v c) (combine (fcAnswer k v c) (simAnswer k v c)) (q .answer))
 

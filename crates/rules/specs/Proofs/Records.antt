@@ -9,7 +9,7 @@ use borrow.Author.Tests.{ltb-true, eqb-true, eq-eqb, ne-eqb}
 use Rattle.rules.specs.Types.{Facility}
 use Rattle.state.specs.Tests.{at, and-l, and-r, or-cases, by-eq, ask-yes, ask-later}
 use Rattle.state.specs.State.{mostUsers, mostObjects, blank}
-use Rattle.rules.specs.Setup.{SetupRecord, isSwitches, isUserRecord, isObjectRecord, fits, room, switchesAllowed, userAllowed, objectAllowed, allowed, recordNumber, userIn, objectIn, switchesRecord, userRecord, objectRecord}
+use Rattle.rules.specs.Setup.{SetupRecord, isSwitches, isUserRecord, isObjectRecord, fits, room, switchesAllowed, userAllowed, objectAllowed, allowed, recordNumber, userEntered, objectEntered, switchesRecord, userRecord, objectRecord}
 
 pub switches-record : (r : SetupRecord) → isSwitches r ≡ true → switchesAllowed r ≡ true → switchesRecord (blank (r .one) (r .two) (r .three)) ≡ r
 unfolding switchesAllowed blank
@@ -26,7 +26,7 @@ switches-record r k h =
       seven = sym (eqb-true (r .seven) 0 (and-r _ _ (and-r _ _ (and-r _ _ z)))) i;
     }
 
-pub user-record : (r : SetupRecord) → isUserRecord r ≡ true → userAllowed r ≡ true → userRecord (userIn r) ≡ r
+pub user-record : (r : SetupRecord) → isUserRecord r ≡ true → userAllowed r ≡ true → userRecord (userEntered r) ≡ r
 unfolding userAllowed
 user-record r k h =
     let z = and-r _ _ (and-r _ _ (and-r _ _ h)) in
@@ -41,7 +41,7 @@ user-record r k h =
       seven = sym (eqb-true (r .seven) 0 (and-r _ _ (and-r _ _ (and-r _ _ z)))) i;
     }
 
-pub object-record : (r : SetupRecord) → isObjectRecord r ≡ true → objectAllowed r ≡ true → objectRecord (objectIn r) ≡ r
+pub object-record : (r : SetupRecord) → isObjectRecord r ≡ true → objectAllowed r ≡ true → objectRecord (objectEntered r) ≡ r
 unfolding objectAllowed
 object-record r k h =
     let z = and-r _ _ (and-r _ _ (and-r _ _ (and-r _ _ h))) in

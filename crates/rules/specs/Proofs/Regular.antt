@@ -10,14 +10,14 @@ use native.Mathlib.Omega.{arith}
 use borrow.Author.Tests.{ltb-true, leb-true}
 use Rattle.rules.specs.Types.{Call, Process, User, Object, Facility}
 use Rattle.state.specs.Tests.{_and_, _or_, at, on, and-l, and-r, or-cases, clash, by-test, by-eq}
-use Rattle.state.specs.Views.{user-new, user-old, object-new, object-old, length-build}
+use Rattle.state.specs.Views.{user-new, user-old, object-new, object-old, add-object, length-build}
 use Rattle.state.specs.Outcomes.{denies}
-use Rattle.state.specs.State.{mostUsers, mostProcesses, mostObjects, mostOpens, processOf, objectOf, userOf, live, closeObject, closeProcess, copyProcess, putProcess, putOpens, addUser, addObject, dropObject, putRefusals, counted, freshProcess, noProcess}
+use Rattle.state.specs.State.{mostUsers, mostProcesses, mostObjects, mostOpens, objectIn, processOf, objectOf, userOf, live, closeObject, closeProcess, copyProcess, putProcess, putOpens, putUser, putObject, dropObject, putRefusals, counted, freshProcess, noProcess}
 use Rattle.state.specs.Labels.{Label, lawful, given, ⊑-refl, bottom-least, join-lawful, meet-lawful, level-lawful, lawful-level, unset-level}
 use Rattle.state.specs.Answers.{passes}
-use Rattle.rules.specs.Effects.{opensBy, dropBy, created, effectBy}
+use Rattle.rules.specs.Effects.{openBy, created, effectFrom, effectBy}
 use Rattle.rules.specs.Calls.{accepted, afterRefusal, after, run}
-use Rattle.rules.specs.Requests.{Request, Login, Clone, SendSignal, SetLevel, Terminate, Create, OnObject, Class, Absent, Reads, Writes, Both, NoCondition, OpenChange, Keep, Add, Close, CloseAll, requestOf, inDirectory, openChange}
+use Rattle.rules.specs.Requests.{Request, Login, Clone, SendSignal, SetLevel, Terminate, Create, OnObject, Unknown, Class, Absent, Reads, Writes, Both, NoCondition, OpenChange, Keep, Add, Close, CloseAll, requestOf, inDirectory, openChange}
 use Rattle.rules.specs.Setup.{switchesAllowed, userAllowed, objectAllowed, switchesRecord, userRecord, objectRecord}
 use Rattle.rules.specs.Modules.{View, viewOf, classIn, macObject, macRule, moveBy, setLevel, moved, levelled}
 use Rattle.rules.specs.Questions.{number}
@@ -40,7 +40,7 @@ pub record Regular (f : Facility) : Type 0 where
 
 -- each way of changing a facility keeps it
 regular-process : (f : Facility) (p : ℕ) (r : Process) → Regular f → p < mostProcesses → LawfulProcess r → Regular (putProcess f p r)
-unfolding putProcess userOf objectOf
+unfolding putProcess
 regular-process f p r R h L =
     record {
       sound = sound-process f p r (R .sound);
@@ -51,7 +51,7 @@ regular-process f p r R h L =
     }
 
 regular-opens : (f : Facility) (l : List ℕ) → length l ≡ mostOpens → Regular f → Regular (putOpens f l)
-unfolding putOpens userOf objectOf processOf
+unfolding putOpens
 regular-opens f l e R =
     record {
       sound = sound-opens f l e (R .sound);
@@ -62,7 +62,7 @@ regular-opens f l e R =
     }
 
 regular-refusals : (f : Facility) (n : ℕ) → Regular f → Regular (putRefusals f n)
-unfolding putRefusals userOf objectOf processOf
+unfolding putRefusals
 regular-refusals f n R =
     record {
       sound = sound-refusals f n (R .sound);
@@ -73,7 +73,7 @@ regular-refusals f n R =
     }
 
 regular-drop : (f : Facility) (t : ℕ) → Regular f → Regular (dropObject f t)
-unfolding dropObject userOf objectOf processOf
+unfolding dropObject objectIn
 regular-drop f t R =
     record {
       sound = sound-drop f t (R .sound);
@@ -83,23 +83,23 @@ regular-drop f t R =
       process = R .process;
     }
 
-pub regular-user : (f : Facility) (u : User) → Regular f → f .users < mostUsers → userAllowed (userRecord u) ≡ true → Regular (addUser f u)
-unfolding addUser objectOf processOf
+pub regular-user : (f : Facility) (u : User) → Regular f → f .users < mostUsers → userAllowed (userRecord u) ≡ true → Regular (putUser f u)
+unfolding putUser
 regular-user f u R h a =
     record {
       sound = sound-user f u h (R .sound);
       switches = R .switches;
       user = λ v b.
           by-eq v (f .users)
-          (λ e. subst⁻¹ (λ (k : ℕ). userAllowed (userRecord (userOf (addUser f u) k)) ≡ true) e (rw (user-new f u (R .sound .shaped) h) a))
+          (λ e. subst⁻¹ (λ (k : ℕ). userAllowed (userRecord (userOf (putUser f u) k)) ≡ true) e (rw (user-new f u (R .sound .shaped) h) a))
           (λ n. rw (user-old f u v n) (R .user v (omega arith)));
       object = R .object;
       process = R .process;
     }
 
 pub regular-object : (f : Facility) (o : Object) → Regular f → f .entered < mostObjects → objectAllowed (objectRecord o) ≡ true
-    → Regular (addObject f o)
-unfolding addObject userOf processOf
+    → Regular (putObject f o)
+unfolding putObject
 regular-object f o R h a =
     record {
       sound = sound-object f o h (R .sound);
@@ -107,7 +107,7 @@ regular-object f o R h a =
       user = R .user;
       object = λ t b.
           by-eq t (f .entered)
-          (λ e. subst⁻¹ (λ (k : ℕ). objectAllowed (objectRecord (objectOf (addObject f o) k)) ≡ true) e (rw (object-new f o (R .sound .shaped) h) a))
+          (λ e. subst⁻¹ (λ (k : ℕ). objectAllowed (objectRecord (objectOf (putObject f o) k)) ≡ true) e (rw (object-new f o (R .sound .shaped) h) a))
           (λ n. rw (object-old f o t n) (R .object t (omega arith)));
       process = R .process;
     }
@@ -169,20 +169,13 @@ levelled-lawful v c L h =
     (λ m. rw m (record { current = level-lawful _ h; readmark = L .readmark; writemark = L .writemark }))
     (λ m. rw m L)
 
--- the opens keep their length
-pub opens-length : (o : OpenChange) (f : Facility) (c : Call) → length (f .opens) ≡ mostOpens → length (opensBy o f c) ≡ mostOpens
-unfolding opensBy closeObject
-opens-length Keep f c e = e
-opens-length (Add m) f c e = simp length-set e
-opens-length Close f c e = simp length-set e
-opens-length CloseAll f c e = length-build mostOpens _
-
-regular-drop-by : (o : OpenChange) (f : Facility) (t : ℕ) → Regular f → Regular (dropBy o f t)
-unfolding dropBy
-regular-drop-by Keep f t R = R
-regular-drop-by (Add m) f t R = R
-regular-drop-by Close f t R = R
-regular-drop-by CloseAll f t R = regular-drop f t R
+-- what a request on an object does to the opens keeps it
+regular-open : (o : OpenChange) (f : Facility) (p t : ℕ) → Regular f → Regular (openBy o f p t)
+unfolding openBy closeObject
+regular-open Keep f p t R = R
+regular-open (Add m) f p t R = regular-opens f _ (simp length-set (R .sound .shaped .opens)) R
+regular-open Close f p t R = regular-opens f _ (simp length-set (R .sound .shaped .opens)) R
+regular-open CloseAll f p t R = regular-drop _ t (regular-opens f _ (length-build mostOpens _) R)
 
 put-entered : (f : Facility) (p : ℕ) (r : Process) → (putProcess f p r) .entered ≡ f .entered
 unfolding putProcess
@@ -194,28 +187,27 @@ module _ (f : Facility) (c : Call) (R : Regular f) where
   object-there h = R .object (c .target) (R .sound .alive (c .target) h)
 
   regular-create : Passed Create (viewOf f c) c → Regular (effectBy Create f c)
-  unfolding effectBy macRule
+  unfolding effectFrom macRule
   regular-create q =
       by-test (inDirectory (c .extra))
       (λ e.
       let a = object-there (rw e at (q .alive)) in
       let L = moved-lawful (viewOf f c) c (R .process (c .process)) a (λ m. rw e at (mac-passed Create (viewOf f c) c q m)) in
-      rw e (regular-object _ _ (regular-process f (c .process) _ R (q .process) L)
-      (rw (put-entered f (c .process) (moved (viewOf f c) c)) (ltb-true _ _ (q .room)))
-      (created-allowed _ (c .extra) L (q .kind))))
-      (λ e. rw e (regular-object f _ R (ltb-true _ _ (q .room)) (created-allowed _ (c .extra) (R .process (c .process)) (q .kind))))
+      let h : (putProcess f (c .process) (moved (viewOf f c) c)) .entered < mostObjects = rw (put-entered f (c .process) (moved (viewOf f c) c)) (ltb-true _ _ (q .room)) in
+      rw (e, add-object (putProcess f (c .process) (moved (viewOf f c) c)) (created (moved (viewOf f c) c) (c .extra)) h)
+      (regular-object _ _ (regular-process f (c .process) _ R (q .process) L) h (created-allowed _ (c .extra) L (q .kind))))
+      (λ e. rw (e, add-object f (created (viewOf f c .caller) (c .extra)) (ltb-true _ _ (q .room)))
+      (regular-object f _ R (ltb-true _ _ (q .room)) (created-allowed _ (c .extra) (R .process (c .process)) (q .kind))))
 
   regular-object-call : Passed OnObject (viewOf f c) c → Regular (effectBy OnObject f c)
-  unfolding effectBy macRule
+  unfolding effectFrom macRule
   regular-object-call q =
       let a = object-there (q .alive) in
       let L = moved-lawful (viewOf f c) c (R .process (c .process)) a (λ m. mac-passed OnObject (viewOf f c) c q m) in
-      regular-drop-by (openChange (c .request)) _ (c .target)
-      (regular-opens (putProcess f (c .process) _) _ (opens-length (openChange (c .request)) f c (R .sound .shaped .opens))
-      (regular-process f (c .process) _ R (q .process) L))
+      regular-open (openChange (c .request)) _ (c .process) (c .target) (regular-process f (c .process) _ R (q .process) L)
 
   regular-effect : (k : Request) → Passed k (viewOf f c) c → Regular (effectBy k f c)
-  unfolding effectBy copyProcess closeProcess closeObject
+  unfolding effectFrom copyProcess closeProcess closeObject
   regular-effect Login q = regular-process f (c .process) _ R (q .process) (fresh-lawful (c .extra))
   regular-effect Clone q =
       regular-opens _ _ (length-build mostOpens _)
@@ -227,6 +219,7 @@ module _ (f : Facility) (c : Call) (R : Regular f) where
       regular-opens _ _ (length-build mostOpens _) (regular-process f (c .process) _ R (q .process) none-lawful)
   regular-effect Create q = regular-create q
   regular-effect OnObject q = regular-object-call q
+  regular-effect Unknown q = R
 
 regular-refused : (f : Facility) (n : ℕ) → Regular f → Regular (afterRefusal f n)
 unfolding afterRefusal counted

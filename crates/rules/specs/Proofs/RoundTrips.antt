@@ -12,10 +12,10 @@ use native.Mathlib.Numerals.{add-one}
 use borrow.Author.Tests.{ltb-true, eqb-true, lt-ltb, le-leb, eq-eqb, ne-eqb}
 use Rattle.rules.specs.Types.{User, Object, Facility}
 use Rattle.state.specs.Tests.{_and_, _or_, ask, at, on, and-l, and-r, and-i, clash, by-test}
-use Rattle.state.specs.Views.{Shaped, user-new, user-old, object-new, object-old}
-use Rattle.state.specs.State.{mostUsers, mostObjects, objectOf, userOf, live, addUser, addObject, blank}
+use Rattle.state.specs.Views.{Shaped, user-new, user-old, object-new, object-old, add-user, add-object}
+use Rattle.state.specs.State.{mostUsers, mostObjects, objectOf, userOf, live, putUser, putObject, addUser, addObject, blank}
 use Rattle.rules.specs.Calls.{run}
-use Rattle.rules.specs.Setup.{SetupRecord, isSwitches, isUserRecord, isObjectRecord, firstRecord, recordsOf, bytesOf, bytesOfAll, sized, fits, room, switchesAllowed, userAllowed, objectAllowed, allowed, recordNumber, userIn, objectIn, enterRecord, enterAll, readSetup, fresh, isAccepted, switchesRecord, userRecord, objectRecord, firstUsers, firstLive, usersOf, liveObjects, setupRecords, setupBytes}
+use Rattle.rules.specs.Setup.{SetupRecord, isSwitches, isUserRecord, isObjectRecord, firstRecord, recordsOf, bytesOf, bytesOfAll, sized, fits, room, switchesAllowed, userAllowed, objectAllowed, allowed, recordNumber, userEntered, objectEntered, enterRecord, enterAll, readSetup, fresh, isAccepted, switchesRecord, userRecord, objectRecord, firstUsers, firstLive, usersOf, liveObjects, setupRecords, setupBytes}
 use Rattle.rules.specs.Promises.{SameSetup, ReadBack, RoundTrips}
 use Rattle.rules.specs.Proofs.Regular.{Regular, regular-run}
 use Rattle.rules.specs.Proofs.Fresh.{Fresh, fresh-refused, fresh-record, fresh-setup}
@@ -75,26 +75,26 @@ unfolding firstLive
 live-kept zero f g h = refl
 live-kept (suc n) f g h = rw (live-kept n f g (λ t b. h t (omega arith)), h n (omega arith))
 
-more-users : (f : Facility) (u : User) → (addUser f u) .users ≡ suc (f .users)
-unfolding addUser
+more-users : (f : Facility) (u : User) → (putUser f u) .users ≡ suc (f .users)
+unfolding putUser
 more-users f u = add-one (f .users)
 
-more-objects : (f : Facility) (o : Object) → (addObject f o) .entered ≡ suc (f .entered)
-unfolding addObject
+more-objects : (f : Facility) (o : Object) → (putObject f o) .entered ≡ suc (f .entered)
+unfolding putObject
 more-objects f o = add-one (f .entered)
 
-new-user : (f : Facility) (u : User) → Shaped f → f .users < mostUsers → usersOf (addUser f u) ≡ usersOf f ++ (u ∷ [])
+new-user : (f : Facility) (u : User) → Shaped f → f .users < mostUsers → usersOf (putUser f u) ≡ usersOf f ++ (u ∷ [])
 unfolding firstUsers
 new-user f u s h =
-    ap (λ (n : ℕ). firstUsers n (addUser f u)) (more-users f u)
-    ∙ rw (users-kept (f .users) f (addUser f u) (λ v b. user-old f u v (omega arith)), user-new f u s h)
+    ap (λ (n : ℕ). firstUsers n (putUser f u)) (more-users f u)
+    ∙ rw (users-kept (f .users) f (putUser f u) (λ v b. user-old f u v (omega arith)), user-new f u s h)
 
 new-object : (f : Facility) (o : Object) → Shaped f → f .entered < mostObjects → on (o .live) ≡ true
-    → liveObjects (addObject f o) ≡ liveObjects f ++ (o ∷ [])
+    → liveObjects (putObject f o) ≡ liveObjects f ++ (o ∷ [])
 unfolding firstLive
 new-object f o s h v =
-    ap (λ (n : ℕ). firstLive n (addObject f o)) (more-objects f o)
-    ∙ rw (live-kept (f .entered) f (addObject f o) (λ t b. object-old f o t (omega arith)), object-new f o s h, v)
+    ap (λ (n : ℕ). firstLive n (putObject f o)) (more-objects f o)
+    ∙ rw (live-kept (f .entered) f (putObject f o) (λ t b. object-old f o t (omega arith)), object-new f o s h, v)
 
 -- The records that are written out after a record was entered: that record more.
 abbrev recordsFrom : SetupRecord → List User → List Object → List SetupRecord
@@ -104,21 +104,21 @@ none-live : (f : Facility) (n : ℕ) → n ≡ 0 → firstLive n f ≡ []
 unfolding firstLive
 none-live f n z = ap (λ (k : ℕ). firstLive k f) z
 
-user-switches : (f : Facility) (u : User) → switchesRecord (addUser f u) ≡ switchesRecord f
-unfolding addUser
+user-switches : (f : Facility) (u : User) → switchesRecord (putUser f u) ≡ switchesRecord f
+unfolding putUser
 user-switches f u = refl
 
-user-objects : (f : Facility) (u : User) → (addUser f u) .entered ≡ f .entered
-unfolding addUser
+user-objects : (f : Facility) (u : User) → (putUser f u) .entered ≡ f .entered
+unfolding putUser
 user-objects f u = refl
 
-object-switches : (f : Facility) (o : Object) → switchesRecord (addObject f o) ≡ switchesRecord f
-unfolding addObject
+object-switches : (f : Facility) (o : Object) → switchesRecord (putObject f o) ≡ switchesRecord f
+unfolding putObject
 object-switches f o = refl
 
-object-users : (f : Facility) (o : Object) → usersOf (addObject f o) ≡ usersOf f
-unfolding addObject userOf
-object-users f o = users-kept (f .users) f (addObject f o) (λ v b. refl)
+object-users : (f : Facility) (o : Object) → usersOf (putObject f o) ≡ usersOf f
+unfolding putObject
+object-users f o = users-kept (f .users) f (putObject f o) (λ v b. refl)
 
 user-last : (r : SetupRecord) (us : List User) (u : User) → recordsFrom r (us ++ (u ∷ [])) [] ≡ recordsFrom r us [] ++ (userRecord u ∷ [])
 user-last r us u = simp (map-append, nothing-after)
@@ -128,15 +128,15 @@ object-last : (r : SetupRecord) (us : List User) (os : List Object) (o : Object)
 object-last r us os o = simp (map-append, append-assoc)
 
 user-written : (f : Facility) (u : User) → Shaped f → f .users < mostUsers → f .entered ≡ 0
-    → setupRecords (addUser f u) ≡ setupRecords f ++ (userRecord u ∷ [])
+    → setupRecords (putUser f u) ≡ setupRecords f ++ (userRecord u ∷ [])
 unfolding setupRecords
 user-written f u s h z =
-    (λ i. recordsFrom (user-switches f u i) (new-user f u s h i) (none-live (addUser f u) _ (user-objects f u ∙ z) i))
+    (λ i. recordsFrom (user-switches f u i) (new-user f u s h i) (none-live (putUser f u) _ (user-objects f u ∙ z) i))
     ∙ user-last (switchesRecord f) (usersOf f) u
     ∙ ap (λ (os : List Object). recordsFrom (switchesRecord f) (usersOf f) os ++ (userRecord u ∷ [])) (sym (none-live f _ z))
 
 object-written : (f : Facility) (o : Object) → Shaped f → f .entered < mostObjects → on (o .live) ≡ true
-    → setupRecords (addObject f o) ≡ setupRecords f ++ (objectRecord o ∷ [])
+    → setupRecords (putObject f o) ≡ setupRecords f ++ (objectRecord o ∷ [])
 unfolding setupRecords
 object-written f o s h v =
     (λ i. recordsFrom (object-switches f o i) (object-users f o i) (new-object f o s h v i))
@@ -148,9 +148,9 @@ added-written : (f : Facility) (i : ℕ) (r : SetupRecord) → Fresh f → i ≢
 unfolding enterRecord
 added-written f i r F n (as-switches z k a) = absurd (n z)
 added-written f i r F n (as-user z k3 k1 e h a) =
-    rw (k3, k1) (user-written f (userIn r) (F .regular .sound .shaped) h e ∙ ap (λ (x : SetupRecord). setupRecords f ++ (x ∷ [])) (user-record r k1 a))
+    rw (k3, k1, add-user f (userEntered r) h) (user-written f (userEntered r) (F .regular .sound .shaped) h e ∙ ap (λ (x : SetupRecord). setupRecords f ++ (x ∷ [])) (user-record r k1 a))
 added-written f i r F n (as-object z k3 k1 k2 h a) =
-    rw (k3, k1) (object-written f (objectIn r) (F .regular .sound .shaped) h refl ∙ ap (λ (x : SetupRecord). setupRecords f ++ (x ∷ [])) (object-record r k2 a))
+    rw (k3, k1, add-object f (objectEntered r) h) (object-written f (objectEntered r) (F .regular .sound .shaped) h refl ∙ ap (λ (x : SetupRecord). setupRecords f ++ (x ∷ [])) (object-record r k2 a))
 
 all-written : (rs : List SetupRecord) (i : ℕ) (f : Facility) → Fresh f → i ≢ 0 → isAccepted (enterAll i f rs .outcome) ≡ true
     → setupRecords (enterAll i f rs .facility) ≡ setupRecords f ++ rs
@@ -268,24 +268,24 @@ object-number : (i : ℕ) (f : Facility) (o : Object) → i ≢ 0 → f .entered
 unfolding recordNumber fits room allowed ask _and_ _or_
 object-number i f o n h a = rw (ne-eqb i 0 n, lt-ltb _ _ h, a .0)
 
-object-entered : (f : Facility) (o : Object) → (enterRecord f (objectRecord o)) .entered ≡ f .entered + 1
-unfolding enterRecord addObject
-object-entered f o = refl
+object-entered : (f : Facility) (o : Object) → f .entered < mostObjects → (enterRecord f (objectRecord o)) .entered ≡ f .entered + 1
+unfolding enterRecord addObject putObject
+object-entered f o h = rw (lt-ltb _ _ h)
 
-user-entered : (f : Facility) (u : User) → (enterRecord f (userRecord u)) .entered ≡ f .entered
-unfolding enterRecord addUser
-user-entered f u = refl
+user-entered : (f : Facility) (u : User) → f .users < mostUsers → (enterRecord f (userRecord u)) .entered ≡ f .entered
+unfolding enterRecord addUser putUser
+user-entered f u h = rw (lt-ltb _ _ h)
 
-user-count : (f : Facility) (u : User) → (enterRecord f (userRecord u)) .users ≡ f .users + 1
-unfolding enterRecord addUser
-user-count f u = refl
+user-count : (f : Facility) (u : User) → f .users < mostUsers → (enterRecord f (userRecord u)) .users ≡ f .users + 1
+unfolding enterRecord addUser putUser
+user-count f u h = rw (lt-ltb _ _ h)
 
 objects-accepted : (os : List Object) (i : ℕ) (f : Facility) → i ≢ 0 → f .entered + length os ≤ mostObjects → All ObjectFit os
     → isAccepted (enterAll i f (map objectRecord os) .outcome) ≡ true
 unfolding enterAll
 objects-accepted [] i f n h a = refl
 objects-accepted (o ∷ os) i f n h a =
-    let e = object-entered f o in
+    let e = object-entered f o (omega arith) in
     goes-on i f (objectRecord o) (map objectRecord os) (object-number i f o n (omega arith) (a .0))
     (objects-accepted os (i + 1) (enterRecord f (objectRecord o)) (omega arith) (omega arith) (a .1))
 
@@ -294,9 +294,9 @@ users-accepted : (us : List User) (os : List Object) (i : ℕ) (f : Facility) �
     → isAccepted (enterAll i f (map userRecord us ++ map objectRecord os) .outcome) ≡ true
 users-accepted [] os i f n z h k a b = objects-accepted os i f n (omega arith) b
 users-accepted (u ∷ us) os i f n z h k a b =
-    let e = user-count f u in
+    let e = user-count f u (omega arith) in
     goes-on i f (userRecord u) (map userRecord us ++ map objectRecord os) (user-number i f u n z (omega arith) (a .0))
-    (users-accepted us os (i + 1) (enterRecord f (userRecord u)) (omega arith) (user-entered f u ∙ z) (omega arith) k (a .1) b)
+    (users-accepted us os (i + 1) (enterRecord f (userRecord u)) (omega arith) (user-entered f u (omega arith) ∙ z) (omega arith) k (a .1) b)
 
 switches-number : (f : Facility) → switchesAllowed (switchesRecord f) ≡ true → recordNumber (blank 0 0 0) 0 (switchesRecord f) ≡ 0
 unfolding recordNumber fits room allowed ask
@@ -366,11 +366,11 @@ firstOf (r ∷ rs) = r
 
 usersAmong : List SetupRecord → List User
 usersAmong [] = []
-usersAmong (r ∷ rs) = cond (isUserRecord r) (userIn r ∷ usersAmong rs) (usersAmong rs)
+usersAmong (r ∷ rs) = cond (isUserRecord r) (userEntered r ∷ usersAmong rs) (usersAmong rs)
 
 objectsAmong : List SetupRecord → List Object
 objectsAmong [] = []
-objectsAmong (r ∷ rs) = cond (isObjectRecord r) (objectIn r ∷ objectsAmong rs) (objectsAmong rs)
+objectsAmong (r ∷ rs) = cond (isObjectRecord r) (objectEntered r ∷ objectsAmong rs) (objectsAmong rs)
 
 no-users : (os : List Object) → usersAmong (map objectRecord os) ≡ []
 unfolding usersAmong
@@ -382,7 +382,7 @@ unfolding usersAmong
 these-users [] os = no-users os
 these-users (u ∷ us) os = ap (λ (l : List User). u ∷ l) (these-users us os)
 
-live-object : (o : Object) → o .live ≡ 1 → objectIn (objectRecord o) ≡ o
+live-object : (o : Object) → o .live ≡ 1 → objectEntered (objectRecord o) ≡ o
 live-object o e = λ i. record { live = sym e i; kind = o .kind; label = o .label; category = o .category; datatype = o .datatype }
 
 these-live : (os : List Object) → All ObjectFit os → objectsAmong (map objectRecord os) ≡ os

@@ -11,7 +11,7 @@ use borrow.Author.Tests.{ltb-true, ltb-false}
 use Rattle.rules.specs.Types.{Process, User, Object, Facility}
 use Rattle.state.specs.Tests.{at, on, clash, by-test, by-eq}
 use Rattle.state.specs.Views.{Shaped, object-old, shaped-process, shaped-opens, shaped-user, shaped-object, shaped-drop, shaped-refusals}
-use Rattle.state.specs.State.{mostUsers, mostProcesses, mostObjects, mostOpens, processOf, objectOf, live, place, opensOf, putProcess, putOpens, addUser, addObject, dropObject, putRefusals, noProcess, blank}
+use Rattle.state.specs.State.{mostUsers, mostProcesses, mostObjects, mostOpens, processIn, objectIn, processOf, live, place, opensOf, putProcess, putOpens, putUser, putObject, dropObject, putRefusals, noProcess, blank}
 use Rattle.state.specs.Labels.{label, bottom}
 
 pub record Sound (f : Facility) : Type 0 where
@@ -21,27 +21,27 @@ pub record Sound (f : Facility) : Type 0 where
   pub alive : (t : ℕ) → live f t ≡ true → t < f .entered
 
 pub sound-process : (f : Facility) (p : ℕ) (r : Process) → Sound f → Sound (putProcess f p r)
-unfolding putProcess objectOf
+unfolding putProcess
 sound-process f p r S =
     record { shaped = shaped-process f p r (S .shaped); users = S .users; entered = S .entered; alive = S .alive }
 
 pub sound-opens : (f : Facility) (l : List ℕ) → length l ≡ mostOpens → Sound f → Sound (putOpens f l)
-unfolding putOpens objectOf
+unfolding putOpens
 sound-opens f l e S =
     record { shaped = shaped-opens f l e (S .shaped); users = S .users; entered = S .entered; alive = S .alive }
 
 pub sound-refusals : (f : Facility) (n : ℕ) → Sound f → Sound (putRefusals f n)
-unfolding putRefusals objectOf
+unfolding putRefusals
 sound-refusals f n S =
     record { shaped = shaped-refusals f n (S .shaped); users = S .users; entered = S .entered; alive = S .alive }
 
-pub sound-user : (f : Facility) (u : User) → f .users < mostUsers → Sound f → Sound (addUser f u)
-unfolding addUser objectOf
+pub sound-user : (f : Facility) (u : User) → f .users < mostUsers → Sound f → Sound (putUser f u)
+unfolding putUser
 sound-user f u h S =
     record { shaped = shaped-user f u (S .shaped); users = omega arith; entered = S .entered; alive = S .alive }
 
-pub sound-object : (f : Facility) (o : Object) → f .entered < mostObjects → Sound f → Sound (addObject f o)
-unfolding addObject
+pub sound-object : (f : Facility) (o : Object) → f .entered < mostObjects → Sound f → Sound (putObject f o)
+unfolding putObject
 sound-object f o h S =
     record {
       shaped = shaped-object f o (S .shaped);
@@ -54,7 +54,7 @@ sound-object f o h S =
 
 -- a dropped object is live no more
 dropped : (f : Facility) (t : ℕ) → Sound f → on (at (set (f .lives) t 0) t) ≡ true → t < f .entered
-unfolding objectOf
+unfolding objectIn
 dropped f t S h =
     by-test (ltb t mostObjects)
     (λ e. let b : t < mostObjects = ltb-true t mostObjects e in
@@ -63,7 +63,7 @@ dropped f t S h =
     S .alive t (rw (set-out (f .lives) t 0 (omega (arith, S .shaped .objects .lives))) at h))
 
 pub sound-drop : (f : Facility) (t : ℕ) → Sound f → Sound (dropObject f t)
-unfolding dropObject objectOf
+unfolding dropObject objectIn
 sound-drop f t S =
     record {
       shaped = shaped-drop f t (S .shaped);
@@ -84,7 +84,7 @@ zeros-length : (n : ℕ) → length {A = ℕ} (replicate n 0) ≡ n
 zeros-length n = length-replicate {A = ℕ} n 0
 
 pub sound-blank : (mac fc sim : ℕ) → Sound (blank mac fc sim)
-unfolding blank objectOf
+unfolding blank objectIn
 sound-blank mac fc sim =
     record {
       shaped = record {
@@ -117,7 +117,7 @@ unfolding blank opensOf
 blank-closed mac fc sim p t = at-zeros mostOpens (place p t)
 
 pub blank-process : (mac fc sim p : ℕ) → processOf (blank mac fc sim) p ≡ noProcess
-unfolding blank processOf noProcess bottom
+unfolding blank noProcess bottom processIn
 blank-process mac fc sim p =
     λ i. record {
       running = at-zeros mostProcesses p i;

@@ -9,14 +9,14 @@ use native.Mathlib.Omega.{arith}
 use borrow.Author.Tests.{ltb-true, eqb-true, not-true, eq-eqb, ne-eqb}
 use Rattle.rules.specs.Types.{Call, Process, Facility}
 use Rattle.state.specs.Tests.{_and_, at, clash, by-test}
-use Rattle.state.specs.Views.{process-same, process-other, at-build, place-below, place-process}
+use Rattle.state.specs.Views.{process-same, process-other, add-object, at-build, place-below, place-process}
 use Rattle.state.specs.Outcomes.{denies}
-use Rattle.state.specs.State.{mostProcesses, mostObjects, mostOpens, processOf, objectOf, runs, live, trustedUser, labelOf, place, opensOf, reading, writing, closeProcess, putProcess, putOpens, freshProcess, noProcess}
+use Rattle.state.specs.State.{mostProcesses, mostObjects, mostOpens, processOf, runs, live, trustedUser, labelOf, place, opensOf, reading, writing, closeProcess, putProcess, putOpens, freshProcess, noProcess}
 use Rattle.state.specs.Labels.{Label, given, _⊑_, ⊑-refl, ⊑-trans, bottom-least}
 use Rattle.state.specs.Answers.{passes, passes-grant}
-use Rattle.rules.specs.Effects.{opensBy, dropBy, created, effectBy}
+use Rattle.rules.specs.Effects.{openBy, created, effectFrom, effectBy}
 use Rattle.rules.specs.Calls.{accepted, afterRefusal, after, trustedLogin}
-use Rattle.rules.specs.Requests.{Request, Login, Clone, SendSignal, SetLevel, Terminate, Create, OnObject, Class, Absent, Reads, Writes, Both, NoCondition, OpenChange, Keep, Add, Close, CloseAll, requestOf, isAbsent, isNoCondition, alters, isLogin, inDirectory, openChange}
+use Rattle.rules.specs.Requests.{Request, Login, Clone, SendSignal, SetLevel, Terminate, Create, OnObject, Unknown, Class, Absent, Reads, Writes, Both, NoCondition, OpenChange, Keep, Add, Close, CloseAll, requestOf, isAbsent, isNoCondition, alters, isLogin, inDirectory, openChange}
 use Rattle.rules.specs.Matter.{nothing, Account, processGains, objectGains, assign, takes, gives, carry, carryBy, entered}
 use Rattle.rules.specs.Modules.{viewOf, classIn, macObject, macRule, moved, levelled}
 use Rattle.rules.specs.Questions.{openFor, number}
@@ -33,7 +33,7 @@ assigned a p s c = rw (eq-eqb p p refl)
 
 step-login : (f : Facility) (a : Account) (c : Call) → Inv f a → Passed Login (viewOf f c) c → trustedUser f (c .extra) ≡ false
     → Inv (effectBy Login f c) (carryBy Login a c)
-unfolding effectBy carryBy freshProcess
+unfolding effectFrom carryBy freshProcess
 step-login f a c I q u =
     inv-process f (assign a (c .process) nothing) (c .process) (freshProcess (c .extra))
     (inv-assign f a (c .process) nothing I (λ x r m. clash m refl))
@@ -50,7 +50,7 @@ step-login f a c I q u =
     stopped = not-true _ (q .newLogin)
 
 step-clone : (f : Facility) (a : Account) (c : Call) → Inv f a → Passed Clone (viewOf f c) c → Inv (effectBy Clone f c) (carryBy Clone a c)
-unfolding effectBy carryBy putProcess
+unfolding effectFrom carryBy putProcess
 step-clone f a c I q =
     inv-copy (putProcess f t (viewOf f c .caller)) (assign a t (a .processes p)) p t
     (inv-process f (assign a t (a .processes p)) t (viewOf f c .caller)
@@ -89,7 +89,7 @@ closed-process l p t h k =
     rw (at-build mostOpens (λ i. cond (eqb (i / mostObjects) p) 0 (at l i)) (place p t) (place-below p t h k), eq-eqb (place p t / mostObjects) p (place-process p t k))
 
 step-terminate : (f : Facility) (a : Account) (c : Call) → Inv f a → Passed Terminate (viewOf f c) c → Inv (effectBy Terminate f c) (carryBy Terminate a c)
-unfolding effectBy carryBy putProcess putOpens opensOf noProcess
+unfolding effectFrom carryBy putProcess putOpens opensOf noProcess
 step-terminate f a c I q =
     inv-process (putOpens f (closeProcess (f .opens) (c .process))) a (c .process) noProcess
     (inv-close-process f a (c .process) I)
@@ -106,7 +106,7 @@ step-terminate f a c I q =
     gone t h = closed-process (f .opens) (c .process) t (q .process) h
 
 step-set-level : (f : Facility) (a : Account) (c : Call) → Inv f a → Passed SetLevel (viewOf f c) c → Inv (effectBy SetLevel f c) (carryBy SetLevel a c)
-unfolding effectBy carryBy macRule
+unfolding effectFrom carryBy macRule
 step-set-level f a c I q =
     inv-move f a (c .process) (levelled (viewOf f c) c) I (q .process) (levelled-moved (viewOf f c) c (I .mac) (passes-grant _ (mac-passed SetLevel (viewOf f c) c q (I .mac))))
 
@@ -158,11 +158,11 @@ module _ (f : Facility) (a : Account) (c : Call) (I : Inv f a) (hp : c .process 
   reaches-now b = rw now (record { inside = inside; labelled = G .labelled; above = b })
 
   give-now : ((moved (viewOf f c) c) .readmark) ⊑ labelOf f (c .target) → Inv (putProcess f (c .process) (moved (viewOf f c) c)) (objectGains a (c .process) (c .target))
-  unfolding putProcess objectOf
+  unfolding putProcess
   give-now b = inv-give _ a (c .process) (c .target) inv-now runs-now inside (G .labelled) (rw now b)
 
   take-now : labelOf f (c .target) ⊑ ((moved (viewOf f c) c) .readmark) → Inv (putProcess f (c .process) (moved (viewOf f c) c)) (processGains a (c .process) (c .target))
-  unfolding putProcess objectOf
+  unfolding putProcess
   take-now b = inv-take _ a (c .process) (c .target) inv-now (knows-now b)
 
 -- a process takes only what it may know, and gives only to what is at least its read mark
@@ -182,7 +182,7 @@ gives-over NoCondition r l s w n h = n refl h
 
 step-create : (f : Facility) (a : Account) (c : Call) → Inv f a → requestOf (c .request) ≡ Create → Passed Create (viewOf f c) c
     → Inv (effectBy Create f c) (carryBy Create a c)
-unfolding effectBy carryBy macRule putProcess
+unfolding effectFrom carryBy macRule putProcess
 step-create f a c I k q =
     by-test (inDirectory (c .extra))
     (λ e.
@@ -190,10 +190,12 @@ step-create f a c I k q =
     let n : not (isAbsent (classIn (viewOf f c) c)) ≡ true = rw e at (q .class) in
     let G = granted-on f a c I (q .running) (rw e at (mac-passed Create (viewOf f c) c q (I .mac))) in
     let r4 = request-create _ k in
-    rw e (inv-enter (putProcess f (c .process) (moved (viewOf f c) c)) (objectGains a (c .process) (c .target)) (created (moved (viewOf f c) c) (c .extra))
+    rw (e, add-object (putProcess f (c .process) (moved (viewOf f c) c)) (created (moved (viewOf f c) c) (c .extra)) (ltb-true _ _ (q .room)))
+    (inv-enter (putProcess f (c .process) (moved (viewOf f c) c)) (objectGains a (c .process) (c .target)) (created (moved (viewOf f c) c) (c .extra))
     (give-now f a c I (q .process) (q .running) v G (G .over (rw r4 (class-create _ (rw r4 at n)))))
     (ltb-true _ _ (q .room))))
-    (λ e. rw e (inv-enter f a (created (viewOf f c .caller) (c .extra)) I (ltb-true _ _ (q .room))))
+    (λ e. rw (e, add-object f (created (viewOf f c .caller) (c .extra)) (ltb-true _ _ (q .room)))
+    (inv-enter f a (created (viewOf f c .caller) (c .extra)) I (ltb-true _ _ (q .room))))
 
 -- a call of class N: what its open mark says
 neutral-read : (f : Facility) (c : Call) → openFor (viewOf f c) c ≡ true → eqb (c .request) 12 ≡ true → reading (opensOf f (c .process) (c .target)) ≡ true
@@ -235,12 +237,14 @@ module _ (f : Facility) (a : Account) (c : Call) (I : Inv f a) (q : Passed OnObj
       (λ k. rw k (give-now f a c I (q .process) (q .running) (q .alive) G (give-over k)))
       (λ k. rw k (inv-now f a c I (q .process) (q .running) (q .alive) G))))
 
-  opened : (o : OpenChange) → openChange (c .request) ≡ o → Inv (putOpens (putProcess f (c .process) (moved (viewOf f c) c)) (opensBy o f c)) (carry (classIn (viewOf f c) c) a c)
-  unfolding opensBy putOpens putProcess opensOf objectOf
-  opened Keep e = carried
-  opened Close e = inv-close (putProcess f (c .process) (moved (viewOf f c) c)) _ (c .process) (c .target) carried (q .process) ht
-  opened CloseAll e = inv-close-object (putProcess f (c .process) (moved (viewOf f c) c)) _ (c .target) carried
-  opened (Add m) e =
+  open-kept : (o : OpenChange) → openChange (c .request) ≡ o
+      → Inv (openBy o (putProcess f (c .process) (moved (viewOf f c) c)) (c .process) (c .target)) (carry (classIn (viewOf f c) c) a c)
+  unfolding openBy putProcess
+  open-kept Keep e = carried
+  open-kept Close e = inv-close (putProcess f (c .process) (moved (viewOf f c) c)) _ (c .process) (c .target) carried (q .process) ht
+  open-kept CloseAll e =
+      inv-drop _ _ (c .target) (inv-close-object (putProcess f (c .process) (moved (viewOf f c) c)) _ (c .target) carried)
+  open-kept (Add m) e =
       inv-add (putProcess f (c .process) (moved (viewOf f c) c)) _ (c .process) (c .target) m carried (q .process) ht
       (λ h. (
         runs-now f a c I (q .process) (q .running) (q .alive) G,
@@ -251,24 +255,17 @@ module _ (f : Facility) (a : Account) (c : Call) (I : Inv f a) (q : Passed OnObj
         reaches-now f a c I (q .process) (q .running) (q .alive) G (G .closes .writes (add-writes (c .request) _ m e (q .class) h)),
       ))
 
-inv-drop-by : (o : OpenChange) (f : Facility) (a : Account) (t : ℕ) → Inv f a → Inv (dropBy o f t) a
-unfolding dropBy
-inv-drop-by Keep f a t I = I
-inv-drop-by Close f a t I = I
-inv-drop-by CloseAll f a t I = inv-drop f a t I
-inv-drop-by (Add m) f a t I = I
-
 step-target : (f : Facility) (a : Account) (c : Call) → Inv f a → Passed OnObject (viewOf f c) c → Inv (effectBy OnObject f c) (carryBy OnObject a c)
-unfolding effectBy carryBy macRule
+unfolding effectFrom carryBy macRule
 step-target f a c I q =
     let G = granted-on f a c I (q .running) (mac-passed OnObject (viewOf f c) c q (I .mac)) in
     rw (I .kinds (c .target) (inside f a c I (q .process) (q .running) (q .alive) G))
-    (inv-drop-by (openChange (c .request)) _ _ (c .target) (opened f a c I q G (openChange (c .request)) refl))
+    (open-kept f a c I q G (openChange (c .request)) refl)
 
 -- every accepted call, by kind of request
 step : (k : Request) (f : Facility) (a : Account) (c : Call) → Inv f a → requestOf (c .request) ≡ k → (isLogin k and trustedUser f (c .extra)) ≡ false
     → Passed k (viewOf f c) c → Inv (effectBy k f c) (carryBy k a c)
-unfolding effectBy carryBy _and_
+unfolding effectFrom carryBy _and_
 step Login f a c I e u q = step-login f a c I q u
 step Clone f a c I e u q = step-clone f a c I q
 step SendSignal f a c I e u q = I
@@ -276,6 +273,7 @@ step SetLevel f a c I e u q = step-set-level f a c I q
 step Terminate f a c I e u q = step-terminate f a c I q
 step Create f a c I e u q = step-create f a c I e q
 step OnObject f a c I e u q = step-target f a c I q
+step Unknown f a c I e u q = I
 
 -- every call
 pub inv-after : (f : Facility) (a : Account) (c : Call) → Inv f a → trustedLogin f c ≡ false

@@ -4,22 +4,23 @@ use mathlib.Core.Path.{_≡_, refl, sym, _∙_, subst₂}
 use mathlib.Core.Bool.{Bool, true, false}
 use mathlib.Core.List.{List, _∷_}
 use lib.Dec.{leb, eqb}
+use lib.ListN.{length, length-set}
 use lib.Seq.{getD-set-same}
 use native.Mathlib.Omega.{arith}
 use borrow.Author.Tests.{eqb-true, eq-eqb}
 use Rattle.rules.specs.Types.{Call, Process, Facility}
 use Rattle.state.specs.Tests.{_and_, _or_, asked, on, or-l, or-r, clash, by-test}
 use Rattle.state.specs.Views.{Shaped, process-same, shaped-process, shaped-opens, reading-add, writing-add}
-use Rattle.state.specs.State.{mostProcesses, mostObjects, processOf, objectOf, userOf, live, trustedUser, labelOf, clearanceOf, place, opensOf, reading, writing, addModes, putProcess, putOpens}
+use Rattle.state.specs.Outcomes.{answersFrom}
+use Rattle.state.specs.State.{mostProcesses, mostObjects, mostOpens, processOf, objectOf, userOf, live, trustedUser, labelOf, clearanceOf, place, opensOf, reading, writing, addModes, putProcess, putOpens}
 use Rattle.state.specs.Labels.{Label, given}
 use Rattle.state.specs.Answers.{passes, combine-not-cared}
-use Rattle.rules.specs.Effects.{opensBy, dropBy, effectBy}
+use Rattle.rules.specs.Effects.{openBy, effectFrom, effectBy}
 use Rattle.rules.specs.Calls.{accepted, after, trustedLogin, trustedLogins}
 use Rattle.rules.specs.Requests.{Request, OnObject, Class, Absent, Reads, Writes, Both, NoCondition, OpenChange, Keep, Add, Close, CloseAll, lastRequest, requestOf, classOf, isAbsent, isNoCondition, isLogin, openChange}
 use Rattle.rules.specs.Matter.{Account, processGains, objectGains, takes, gives, carry, carryBy, entered, account, history}
 use Rattle.rules.specs.Modules.{viewOf, classIn, macClass, macObject, macRule, macAnswer, fcAnswer, simAnswer, answers, moveBy, moved}
 use Rattle.rules.specs.Questions.{openFor, numberBy}
-use Rattle.rules.specs.Proofs.Regular.{opens-length}
 use Rattle.rules.specs.Proofs.Passed.{all-passed}
 
 -- request r by process p on object t
@@ -32,13 +33,6 @@ drops Keep = false
 drops Close = false
 drops CloseAll = true
 drops (Add m) = false
-
-undropped : (o : OpenChange) (f : Facility) (t : ℕ) → drops o ≡ false → dropBy o f t ≡ f
-unfolding dropBy
-undropped Keep f t h = refl
-undropped Close f t h = refl
-undropped CloseAll f t h = clash refl h
-undropped (Add m) f t h = refl
 
 move-running : (k : Class) (l : Label) (r : Process) → (moveBy k l r) .running ≡ r .running
 unfolding moveBy
@@ -94,7 +88,7 @@ module _ (p : ℕ) (f₀ f : Facility) (a : Account) (u : ℕ) (r : Process) (q 
   mac-passes = rw (S .untrusted, A .labelled) (A .granted)
 
   combined-is : answers OnObject (viewOf f (by p q t)) (by p q t) .combined ≡ macObject k (objectOf f₀ t) r (userOf f₀ u)
-  unfolding answers macAnswer fcAnswer simAnswer macRule _and_
+  unfolding answers answersFrom macAnswer fcAnswer simAnswer macRule _and_
   combined-is = rw (S .mac, S .fc, S .sim, class-is, S .process, owner-is, S .objects t) (combine-not-cared _)
 
   number-is : numberBy OnObject (viewOf f (by p q t)) (by p q t) ≡ 0
@@ -137,19 +131,18 @@ module _ (p : ℕ) (f₀ f : Facility) (a : Account) (u : ℕ) (r : Process) (q 
   carry-kinds x =
       by-test (takes q k) (λ h. rw h) (λ h. rw h (by-test (gives q k) (λ e. rw e) (λ e. rw e)))
 
-  effect-is : (o : OpenChange) → openChange q ≡ o → drops o ≡ false
-      → effectBy OnObject f (by p q t) ≡ putOpens (putProcess f p (moveBy k (labelOf f₀ t) r)) (opensBy o f (by p q t))
-  unfolding effectBy
-  effect-is o e d = rw (e, moved-to) (undropped o _ t d)
+  effect-is : (o : OpenChange) → openChange q ≡ o
+      → effectBy OnObject f (by p q t) ≡ openBy o (putProcess f p (moveBy k (labelOf f₀ t) r)) p t
+  unfolding effectFrom
+  effect-is o e = rw (e, moved-to)
 
-  -- the state after a call that drops no object
-  scene-after : (o : OpenChange) → openChange q ≡ o → drops o ≡ false
-      → Scene p f₀ (putOpens (putProcess f p (moveBy k (labelOf f₀ t) r)) (opensBy o f (by p q t))) (carry k a (by p q t)) u (moveBy k (labelOf f₀ t) r)
-  unfolding putOpens putProcess objectOf processOf userOf
-  scene-after o e d =
+  -- the state with the caller moved
+  scene-moved : Scene p f₀ (putProcess f p (moveBy k (labelOf f₀ t) r)) (carry k a (by p q t)) u (moveBy k (labelOf f₀ t) r)
+  unfolding putProcess
+  scene-moved =
       record {
         small = S .small;
-        shaped = shaped-opens (putProcess f p _) (opensBy o f (by p q t)) (opens-length o f (by p q t) (S .shaped .opens)) (shaped-process f p _ (S .shaped));
+        shaped = shaped-process f p _ (S .shaped);
         mac = S .mac;
         fc = S .fc;
         sim = S .sim;
@@ -161,6 +154,35 @@ module _ (p : ℕ) (f₀ f : Facility) (a : Account) (u : ℕ) (r : Process) (q 
         owner = move-owner k (labelOf f₀ t) r ∙ S .owner;
         kinds = λ x. carry-kinds x ∙ S .kinds x;
       }
+
+-- the state with other opens
+scene-opens : (p : ℕ) (f₀ f : Facility) (a : Account) (u : ℕ) (r : Process) (l : List ℕ) → length l ≡ mostOpens → Scene p f₀ f a u r
+    → Scene p f₀ (putOpens f l) a u r
+unfolding putOpens
+scene-opens p f₀ f a u r l e S =
+    record {
+      small = S .small;
+      shaped = shaped-opens f l e (S .shaped);
+      mac = S .mac;
+      fc = S .fc;
+      sim = S .sim;
+      objects = S .objects;
+      user = S .user;
+      untrusted = S .untrusted;
+      process = S .process;
+      running = S .running;
+      owner = S .owner;
+      kinds = S .kinds;
+    }
+
+-- a request that drops no object
+scene-open : (o : OpenChange) (p : ℕ) (f₀ f : Facility) (a : Account) (u : ℕ) (r : Process) (t : ℕ) → drops o ≡ false → Scene p f₀ f a u r
+    → Scene p f₀ (openBy o f p t) a u r
+unfolding openBy
+scene-open Keep p f₀ f a u r t d S = S
+scene-open (Add m) p f₀ f a u r t d S = scene-opens p f₀ f a u r _ (simp length-set (S .shaped .opens)) S
+scene-open Close p f₀ f a u r t d S = scene-opens p f₀ f a u r _ (simp length-set (S .shaped .opens)) S
+scene-open CloseAll p f₀ f a u r t d S = clash refl d
 
 -- what is to be reached by a list of calls: b holds the matter of x
 pub record Reach (f : Facility) (a : Account) (cs : List Call) (b x : ℕ) : Type 0 where
@@ -220,26 +242,27 @@ module _ (p : ℕ) (a : Account) (q t : ℕ) (k : Class) (x : ℕ) where
 module _ (p : ℕ) (f₀ f : Facility) (a : Account) (u : ℕ) (r : Process) (q t : ℕ) (k : Class) (o : OpenChange) (S : Scene p f₀ f a u r) (A : Allowed p f₀ f u r q t k)
     (e : openChange q ≡ o) (d : drops o ≡ false) where
   pub reach-target : (cs : List Call) (b x : ℕ)
-      → (Scene p f₀ (putOpens (putProcess f p (moveBy k (labelOf f₀ t) r)) (opensBy o f (by p q t))) (carry k a (by p q t)) u (moveBy k (labelOf f₀ t) r)
-      → Reach (putOpens (putProcess f p (moveBy k (labelOf f₀ t) r)) (opensBy o f (by p q t))) (carry k a (by p q t)) cs b x)
+      → (Scene p f₀ (openBy o (putProcess f p (moveBy k (labelOf f₀ t) r)) p t) (carry k a (by p q t)) u (moveBy k (labelOf f₀ t) r)
+      → Reach (openBy o (putProcess f p (moveBy k (labelOf f₀ t) r)) p t) (carry k a (by p q t)) cs b x)
       → Reach f a (by p q t ∷ cs) b x
   unfolding _and_
   reach-target cs b x R =
       reach-call f a (by p q t) OnObject cs b x (A .target) (accepted-is p f₀ f a u r q t k S A) refl
-      (rw (effect-is p f₀ f a u r q t k S A o e d, carried-is p f₀ f a u r q t k S A) (R (scene-after p f₀ f a u r q t k S A o e d)))
+      (rw (effect-is p f₀ f a u r q t k S A o e, carried-is p f₀ f a u r q t k S A)
+      (R (scene-open o p f₀ _ _ u _ t d (scene-moved p f₀ f a u r q t k S A))))
 
 -- the marks of an object just opened by process p
-opened-mark : (p : ℕ) (f : Facility) (s : Process) (q t m : ℕ) → Shaped f → p < mostProcesses → t < mostObjects
-    → opensOf (putOpens (putProcess f p s) (opensBy (Add m) f (by p q t))) p t ≡ addModes (opensOf f p t) m
-unfolding opensOf opensBy putOpens putProcess
-opened-mark p f s q t m S hp h = getD-set-same (f .opens) (place p t) _ 0 (omega (arith, S .opens))
+opened-mark : (p : ℕ) (f : Facility) (s : Process) (t m : ℕ) → Shaped f → p < mostProcesses → t < mostObjects
+    → opensOf (openBy (Add m) (putProcess f p s) p t) p t ≡ addModes (opensOf f p t) m
+unfolding opensOf openBy putOpens putProcess
+opened-mark p f s t m S hp h = getD-set-same (f .opens) (place p t) _ 0 (omega (arith, S .opens))
 
-pub open-to-read : (p : ℕ) (f : Facility) (s : Process) (q t m : ℕ) → Shaped f → p < mostProcesses → t < mostObjects → reading m ≡ true
-    → openFor (viewOf (putOpens (putProcess f p s) (opensBy (Add m) f (by p q t))) (by p 12 t)) (by p 12 t) ≡ true
+pub open-to-read : (p : ℕ) (f : Facility) (s : Process) (t m : ℕ) → Shaped f → p < mostProcesses → t < mostObjects → reading m ≡ true
+    → openFor (viewOf (openBy (Add m) (putProcess f p s) p t) (by p 12 t)) (by p 12 t) ≡ true
 unfolding openFor
-open-to-read p f s q t m S hp h e = rw (opened-mark p f s q t m S hp h, reading-add (opensOf f p t) m) (or-r _ _ e)
+open-to-read p f s t m S hp h e = rw (opened-mark p f s t m S hp h, reading-add (opensOf f p t) m) (or-r _ _ e)
 
-pub open-to-write : (p : ℕ) (f : Facility) (s : Process) (q t m : ℕ) → Shaped f → p < mostProcesses → t < mostObjects → writing m ≡ true
-    → openFor (viewOf (putOpens (putProcess f p s) (opensBy (Add m) f (by p q t))) (by p 19 t)) (by p 19 t) ≡ true
+pub open-to-write : (p : ℕ) (f : Facility) (s : Process) (t m : ℕ) → Shaped f → p < mostProcesses → t < mostObjects → writing m ≡ true
+    → openFor (viewOf (openBy (Add m) (putProcess f p s) p t) (by p 19 t)) (by p 19 t) ≡ true
 unfolding openFor
-open-to-write p f s q t m S hp h e = rw (opened-mark p f s q t m S hp h, writing-add (opensOf f p t) m) (or-r _ _ e)
+open-to-write p f s t m S hp h e = rw (opened-mark p f s t m S hp h, writing-add (opensOf f p t) m) (or-r _ _ e)

@@ -1,0 +1,24 @@
+use Rattle.decide.proofs.class_of.Statement.{statement}
+use Rattle.decide.proofs.class_of.Tie as tie
+use mathlib.Core.Path.{sym, _∙_, ap}
+use borrow.Author.Needs.{needs}
+use Rattle.decide.specs.ClassCodes.{classNamed, named-coded, no-request, no-kind}
+
+returns : tie.Need-returns
+returns c = sym (no-request _ _ (c .if1 .taken))
+
+returns-2 : tie.Need-returns-2
+returns-2 c = sym (no-kind _ _ (c .if2 .taken))
+
+code-at-requires : tie.Need-code-at-requires
+code-at-requires c κs = search needs
+
+class-named-requires : tie.Need-class-named-requires
+class-named-requires c κs = search needs
+
+returns-3 : tie.Need-returns-3
+returns-3 c = c .class-named .ensures ∙ ap classNamed (c .before .code-at .ensures) ∙ named-coded _
+
+pub class-of-spec : {M : Type 1} → statement M
+class-of-spec =
+    tie.close (tie.spec returns returns-2 code-at-requires class-named-requires returns-3)

@@ -1,0 +1,22 @@
+use Rattle.decide.proofs.levelled.Statement.{statement}
+use Rattle.decide.proofs.levelled.Tie as tie
+use borrow.Author.Tests.{eq-eqb, ne-eqb}
+use borrow.Author.Needs.{needs}
+use Rattle.rules.specs.Modules.{levelled}
+
+of-requires : tie.Need-of-requires
+of-requires c κs = search needs
+
+set-level-requires : tie.Need-set-level-requires
+set-level-requires c κs = search needs
+
+returns : tie.Need-returns
+unfolding levelled
+returns c = rw (c .set-level .ensures, c .before .of .ensures, eq-eqb _ 1 (c .before .before .if1 .taken))
+
+returns-2 : tie.Need-returns-2
+unfolding levelled
+returns-2 c = rw (ne-eqb _ 1 (c .before .if1 .left))
+
+pub levelled-spec : {M : Type 1} → statement M
+levelled-spec = tie.close (tie.spec of-requires set-level-requires returns returns-2)

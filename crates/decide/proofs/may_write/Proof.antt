@@ -1,0 +1,26 @@
+use Rattle.decide.proofs.may_write.Statement.{statement}
+use Rattle.decide.proofs.may_write.Tie as tie
+use borrow.Author.Needs.{needs}
+use Rattle.state.specs.Tests.{_and_, _or_}
+use Rattle.rules.specs.Modules.{mayWrite}
+
+same-requires : tie.Need-same-requires
+same-requires c κs = search needs
+
+at-most-requires : tie.Need-at-most-requires
+at-most-requires c κs = search needs
+
+at-most-requires-2 : tie.Need-at-most-requires-2
+at-most-requires-2 c κs = search needs
+
+at-most-requires-3 : tie.Need-at-most-requires-3
+at-most-requires-3 c κs = search needs
+
+returns : tie.Need-returns
+unfolding mayWrite _and_ _or_
+returns c = rw (c .before .at-most3 .ensures, c .before .before .at-most2 .ensures, c .before .before .before .at-most .ensures, c .before .before .before .before .before .same .ensures)
+
+pub may-write-spec : {M : Type 1} → statement M
+may-write-spec =
+    tie.close
+    (tie.spec same-requires at-most-requires at-most-requires-2 at-most-requires-3 returns)

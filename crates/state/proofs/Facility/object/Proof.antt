@@ -1,0 +1,14 @@
+use Rattle.state.proofs.Facility.object.Statement.{statement}
+use Rattle.state.proofs.Facility.object.Tie as tie
+use borrow.Author.Needs.{needs}
+use Rattle.state.specs.State.{objectIn}
+
+object-at-requires : tie.Need-object-at-requires
+object-at-requires c κs = search needs
+
+returns : tie.Need-returns
+unfolding objectIn
+returns c = c .object-at .ensures
+
+pub object-spec : {M : Type 1} → statement M
+object-spec = tie.close (tie.spec object-at-requires returns)

@@ -1,0 +1,14 @@
+use Rattle.state.proofs.Facility.user.Statement.{statement}
+use Rattle.state.proofs.Facility.user.Tie as tie
+use borrow.Author.Needs.{needs}
+use Rattle.state.specs.State.{userIn}
+
+user-at-requires : tie.Need-user-at-requires
+user-at-requires c κs = search needs
+
+returns : tie.Need-returns
+unfolding userIn
+returns c = c .user-at .ensures
+
+pub user-spec : {M : Type 1} → statement M
+user-spec = tie.close (tie.spec user-at-requires returns)

@@ -1,0 +1,11 @@
+use Rattle.state.proofs.Label.at_most.Statement.{statement}
+use Rattle.state.proofs.Label.at_most.Tie as tie
+use mathlib.Core.Path.{refl}
+use Rattle.state.specs.Labels.{leq}
+
+returns : tie.Need-returns
+unfolding leq
+returns c = refl
+
+pub at-most-spec : {M : Type 1} → statement M
+at-most-spec = tie.close (tie.spec returns)
