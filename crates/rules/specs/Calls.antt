@@ -1,4 +1,5 @@
 -- Query and enforce, and what becomes of a facility under a list of calls.
+pub use Rattle.rules.specs.declared.Enforced.{Enforced}
 use Prim.Native.Nat.{ℕ}
 use mathlib.Core.Bool.{Bool, false, cond}
 use mathlib.Core.List.{List, [], _∷_}
@@ -31,10 +32,6 @@ afterRefusal f n = cond (denies n) (counted f) f
 -- the facility after a call
 unfoldable pub after : Facility → Call → Facility
 after f c = cond (accepted f c) (effectBy (requestOf (c .request)) f c) (afterRefusal f (number f c))
-
-pub record Enforced : Type 0 where
-  pub facility : Facility
-  pub outcome : Outcome
 
 abbrev pub enforce : Facility → Call → Enforced
 enforce f c = record { facility = after f c; outcome = query f c }

@@ -10,15 +10,15 @@ use Rattle.state.specs.Answers.{grant}
 use Rattle.rules.specs.Effects.{openBy, effectFrom}
 use Rattle.rules.specs.Calls.{accepted, objectGiven, query, afterRefusal, after}
 use Rattle.rules.specs.Requests.{requestOf, files, directories, channels, controlData, listOf, classAmong, classOf, openChange}
-use Rattle.rules.specs.Setup.{recordsOf, sized, fits, room, switchesAllowed, userAllowed, objectAllowed, allowed, recordNumber, enterRecord, enterAll, readSetup}
+use Rattle.rules.specs.Setup.{recordsOf, allowedLength, fits, room, switchesAllowed, userAllowed, objectAllowed, allowed, recordNumber, enterRecord, enterAll, readSetup}
 use Rattle.rules.specs.Lines.{decimalIn, levelText, callLine, callsOf, callLines, setupLine, shortLine, printed}
-use Rattle.rules.specs.Matter.{start, processGains, objectGains, assign, enter, carry, carryBy, entered, account, history}
+use Rattle.rules.specs.Matter.{start, processGains, objectGains, assign, enter, carry, carryBy, afterEntry, account, history}
 use Rattle.rules.specs.Modules.{mayRead, mayWrite, maySet, macClass, macObject, macSignal, macRule, fcRule, simRule, macAnswer, fcAnswer, simAnswer, answers, moveBy, setLevel, moved, levelled}
 use Rattle.rules.specs.Questions.{inRange, isRunning, isFree, openFor, roomFor, numberBy}
 
 -- Whoever unfolds this unfolds every definition of document 01, so that closed calls compute.
 unfoldable pub everything : ℕ
-unfolding _and_ _or_ ask leq same join meet bottom top given grant denies answersFrom outcomeOf processIn objectIn userIn opensOf reading writing addModes build closeObject closeProcess copyProcess putProcess putOpens putUser putObject addUser addObject dropObject putRefusals counted freshProcess noProcess blank recordsOf sized fits room switchesAllowed userAllowed objectAllowed allowed recordNumber enterRecord enterAll readSetup requestOf files directories channels controlData listOf classAmong classOf openChange mayRead mayWrite maySet macClass macObject macSignal macRule fcRule simRule macAnswer fcAnswer simAnswer answers moveBy setLevel moved levelled inRange isRunning isFree openFor roomFor numberBy openBy effectFrom accepted objectGiven query afterRefusal after start processGains objectGains assign enter carry carryBy entered account history decimalIn levelText callLine callsOf callLines setupLine shortLine printed
+unfolding _and_ _or_ ask leq same join meet bottom top given grant denies answersFrom outcomeOf processIn objectIn userIn opensOf reading writing addModes build closeObject closeProcess copyProcess putProcess putOpens putUser putObject addUser addObject dropObject putRefusals counted freshProcess noProcess blank recordsOf allowedLength fits room switchesAllowed userAllowed objectAllowed allowed recordNumber enterRecord enterAll readSetup requestOf files directories channels controlData listOf classAmong classOf openChange mayRead mayWrite maySet macClass macObject macSignal macRule fcRule simRule macAnswer fcAnswer simAnswer answers moveBy setLevel moved levelled inRange isRunning isFree openFor roomFor numberBy openBy effectFrom accepted objectGiven query afterRefusal after start processGains objectGains assign enter carry carryBy afterEntry account history decimalIn levelText callLine callsOf callLines setupLine shortLine printed
 everything = 0
 
 -- the combined answer, and the number, of each call of a list

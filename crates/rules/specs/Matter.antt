@@ -119,12 +119,12 @@ pub record Entry : Type 0 where
   pub accepted : Bool
 
 -- a refused call changes nothing
-unfoldable pub entered : Account → Entry → Account
-entered a x = cond (x .accepted) (carryBy (requestOf (x .call .request)) a (x .call)) a
+unfoldable pub afterEntry : Account → Entry → Account
+afterEntry a x = cond (x .accepted) (carryBy (requestOf (x .call .request)) a (x .call)) a
 
 unfoldable pub account : Account → List Entry → Account
 account a [] = a
-account a (x ∷ xs) = account (entered a x) xs
+account a (x ∷ xs) = account (afterEntry a x) xs
 
 -- what is taken of the calls of a list from f
 unfoldable pub history : Facility → List Call → List Entry

@@ -1,4 +1,6 @@
 -- "Set-up records": reading a set-up, and writing one out.
+pub use Rattle.rules.specs.declared.SetupRecord.{SetupRecord}
+pub use Rattle.rules.specs.declared.Reading.{Reading}
 use Rattle.state.specs.declared.SetupOutcome.the-variants.{Accepted, Refused}
 use Rattle.state.specs.declared.WriteOutcome.the-variants.{Written, NoRoom}
 use Prim.Native.Nat.{ℕ, zero, suc, _+_, _/_, _%_}
@@ -7,21 +9,11 @@ use mathlib.Core.List.{List, [], _∷_, _++_, map}
 use lib.Dec.{leb, ltb, eqb}
 use lib.ListN.{length, drop}
 use Rattle.rules.specs.Types.{SetupOutcome, WriteOutcome, User, Object, Facility}
-use Rattle.state.specs.Tests.{_and_, _or_, ask, at}
-use Rattle.state.specs.State.{mostUsers, mostObjects, objectOf, userOf, live, addUser, addObject, blank}
+use Rattle.state.specs.Tests.{_and_, _or_, ask, at, on}
+use Rattle.state.specs.State.{mostUsers, mostObjects, Users, Objects, usersIn, objectsIn, objectIn, userIn, addUser, addObject, blank}
 use Rattle.state.specs.Labels.{label}
 
--- 8 bytes each, no header. Byte 0 is the kind.
-pub record SetupRecord : Type 0 where
-  pub kind : ℕ
-  pub one : ℕ
-  pub two : ℕ
-  pub three : ℕ
-  pub four : ℕ
-  pub five : ℕ
-  pub six : ℕ
-  pub seven : ℕ
-
+-- A record is 8 bytes, no header. Byte 0 is the kind.
 abbrev pub isSwitches : SetupRecord → Bool
 isSwitches r = eqb (r .kind) 3
 
@@ -59,18 +51,21 @@ bytesOfAll [] = []
 bytesOfAll (r ∷ rs) = bytesOf r ++ bytesOfAll rs
 
 -- 14: is the length a positive multiple of 8, at most 1,160?
-unfoldable pub sized : List ℕ → Bool
-sized s = eqb (length s % 8) 0 and ltb 0 (length s) and leb (length s) 1160
+unfoldable pub allowedLength : ℕ → Bool
+allowedLength n = eqb (n % 8) 0 and ltb 0 n and leb n 1160
 
--- 15: does the kind fit the place (3 first and only there, no 1 after a 2)? f is what the earlier records gave, i the index
-unfoldable pub fits : Facility → ℕ → SetupRecord → Bool
-fits f i r =
-    cond (eqb i 0) (isSwitches r) ((isUserRecord r and eqb (f .entered) 0) or isObjectRecord r)
+abbrev pub sized : List ℕ → Bool
+sized s = allowedLength (length s)
+
+-- 15: does the kind fit the place (3 first and only there, no 1 after a 2)? i is the index, `entered` counts the objects before it
+unfoldable pub fits : ℕ → ℕ → SetupRecord → Bool
+fits entered i r =
+    cond (eqb i 0) (isSwitches r) ((isUserRecord r and eqb entered 0) or isObjectRecord r)
 
 -- 16: are fewer than 16 users, or 128 objects, entered before it?
-unfoldable pub room : Facility → SetupRecord → Bool
-room f r =
-    cond (isUserRecord r) (ltb (f .users) mostUsers) (cond (isObjectRecord r) (ltb (f .entered) mostObjects) true)
+unfoldable pub room : ℕ → ℕ → SetupRecord → Bool
+room users entered r =
+    cond (isUserRecord r) (ltb users mostUsers) (cond (isObjectRecord r) (ltb entered mostObjects) true)
 
 -- 17: is every byte allowed?
 unfoldable pub switchesAllowed : SetupRecord → Bool
@@ -93,9 +88,9 @@ objectAllowed r =
 unfoldable pub allowed : SetupRecord → Bool
 allowed r = cond (isSwitches r) (switchesAllowed r) (cond (isUserRecord r) (userAllowed r) (objectAllowed r))
 
--- the questions 15 to 17 of one record
-unfoldable pub recordNumber : Facility → ℕ → SetupRecord → ℕ
-recordNumber f i r = ask (fits f i r) 15 (ask (room f r) 16 (ask (allowed r) 17 0))
+-- the questions 15 to 17 of one record, after so many users and objects
+unfoldable pub recordNumber : ℕ → ℕ → ℕ → SetupRecord → ℕ
+recordNumber users entered i r = ask (fits entered i r) 15 (ask (room users entered r) 16 (ask (allowed r) 17 0))
 
 -- the user and the object that a record enters
 abbrev pub userEntered : SetupRecord → User
@@ -110,11 +105,6 @@ enterRecord f r =
     cond (isSwitches r) (blank (r .one) (r .two) (r .three))
     (cond (isUserRecord r) (addUser f (userEntered r)) (addObject f (objectEntered r)))
 
--- a set-up's outcome and its fresh facility
-pub record Reading : Type 0 where
-  pub outcome : SetupOutcome
-  pub facility : Facility
-
 -- a refused set-up gives the fresh facility of one switches record with all off
 abbrev pub refusedSetup : ℕ → ℕ → Reading
 refusedSetup n i = record { outcome = Refused n i; facility = blank 0 0 0 }
@@ -123,7 +113,9 @@ refusedSetup n i = record { outcome = Refused n i; facility = blank 0 0 0 }
 unfoldable pub enterAll : ℕ → Facility → List SetupRecord → Reading
 enterAll i f [] = record { outcome = Accepted; facility = f }
 enterAll i f (r ∷ rs) =
-    cond (eqb (recordNumber f i r) 0) (enterAll (i + 1) (enterRecord f r) rs) (refusedSetup (recordNumber f i r) i)
+    cond (eqb (recordNumber (f .users) (f .entered) i r) 0)
+    (enterAll (i + 1) (enterRecord f r) rs)
+    (refusedSetup (recordNumber (f .users) (f .entered) i r) i)
 
 unfoldable pub readSetup : List ℕ → Reading
 readSetup s =
@@ -172,19 +164,19 @@ objectRecord o =
     }
 
 -- the first n users, and the live ones of the first n objects, in order
-unfoldable pub firstUsers : ℕ → Facility → List User
-firstUsers zero f = []
-firstUsers (suc n) f = firstUsers n f ++ (userOf f n ∷ [])
+unfoldable pub firstUsers : ℕ → Users → List User
+firstUsers zero x = []
+firstUsers (suc n) x = firstUsers n x ++ (userIn x n ∷ [])
 
-unfoldable pub firstLive : ℕ → Facility → List Object
-firstLive zero f = []
-firstLive (suc n) f = firstLive n f ++ cond (live f n) (objectOf f n ∷ []) []
+unfoldable pub firstLive : ℕ → Objects → List Object
+firstLive zero x = []
+firstLive (suc n) x = firstLive n x ++ cond (on ((objectIn x n) .live)) (objectIn x n ∷ []) []
 
 abbrev pub usersOf : Facility → List User
-usersOf f = firstUsers (f .users) f
+usersOf f = firstUsers (f .users) (usersIn f)
 
 abbrev pub liveObjects : Facility → List Object
-liveObjects f = firstLive (f .entered) f
+liveObjects f = firstLive (f .entered) (objectsIn f)
 
 unfoldable pub setupRecords : Facility → List SetupRecord
 setupRecords f = switchesRecord f ∷ (map userRecord (usersOf f) ++ map objectRecord (liveObjects f))

@@ -1,6 +1,9 @@
-// The types of the rules: what a request acts on, its class, what it does to the opens, and what a call looks at.
+// The types of the rules: what a request acts on, its class, what it does to the opens, what a call looks at, and what reading and enforcing give.
+use state::Facility;
 use state::Object;
+use state::Outcome;
 use state::Process;
+use state::SetupOutcome;
 use state::User;
 
 // What a request acts on. All requests that are not named here act on an object; a number above 21 is no request.
@@ -47,4 +50,28 @@ pub struct View {
     pub receiver: Process,
     pub object: Object,
     pub opens: u8,
+}
+
+// A set-up record: eight bytes.
+pub struct SetupRecord {
+    pub kind: u8,
+    pub one: u8,
+    pub two: u8,
+    pub three: u8,
+    pub four: u8,
+    pub five: u8,
+    pub six: u8,
+    pub seven: u8,
+}
+
+// What reading a set-up gives.
+pub struct Reading {
+    pub outcome: SetupOutcome,
+    pub facility: Facility,
+}
+
+// What enforcing a call gives.
+pub struct Enforced {
+    pub facility: Facility,
+    pub outcome: Outcome,
 }

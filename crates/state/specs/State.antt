@@ -31,13 +31,11 @@ mostRefusals = 4294967295
 
 -- The parts of a facility: its users, objects and processes.
 pub record Users : Type 0 where
-  pub count : ℕ
   pub clearances : List ℕ
   pub roles : List ℕ
   pub trusts : List ℕ
 
 pub record Objects : Type 0 where
-  pub entered : ℕ
   pub lives : List ℕ
   pub kinds : List ℕ
   pub levels : List ℕ
@@ -52,20 +50,20 @@ pub record Processes : Type 0 where
   pub writemarks : List ℕ
   pub automatics : List ℕ
 
-abbrev pub usersFrom : ℕ → List ℕ → List ℕ → List ℕ → Users
-usersFrom n a b c = record { count = n; clearances = a; roles = b; trusts = c }
+abbrev pub usersFrom : List ℕ → List ℕ → List ℕ → Users
+usersFrom a b c = record { clearances = a; roles = b; trusts = c }
 
-abbrev pub objectsFrom : ℕ → List ℕ → List ℕ → List ℕ → List ℕ → List ℕ → Objects
-objectsFrom n a b c d e = record { entered = n; lives = a; kinds = b; levels = c; categories = d; datatypes = e }
+abbrev pub objectsFrom : List ℕ → List ℕ → List ℕ → List ℕ → List ℕ → Objects
+objectsFrom a b c d e = record { lives = a; kinds = b; levels = c; categories = d; datatypes = e }
 
 abbrev pub processesFrom : List ℕ → List ℕ → List ℕ → List ℕ → List ℕ → List ℕ → Processes
 processesFrom a b c d e f = record { runnings = a; owners = b; currents = c; readmarks = d; writemarks = e; automatics = f }
 
 abbrev pub usersIn : Facility → Users
-usersIn f = usersFrom (f .users) (f .clearances) (f .roles) (f .trusts)
+usersIn f = usersFrom (f .clearances) (f .roles) (f .trusts)
 
 abbrev pub objectsIn : Facility → Objects
-objectsIn f = objectsFrom (f .entered) (f .lives) (f .kinds) (f .levels) (f .categories) (f .datatypes)
+objectsIn f = objectsFrom (f .lives) (f .kinds) (f .levels) (f .categories) (f .datatypes)
 
 abbrev pub processesIn : Facility → Processes
 processesIn f = processesFrom (f .runnings) (f .owners) (f .currents) (f .readmarks) (f .writemarks) (f .automatics)
@@ -164,18 +162,18 @@ closeProcess l p = build mostOpens (λ i. cond (eqb (i / mostObjects) p) 0 (at l
 unfoldable pub copyProcess : List ℕ → ℕ → ℕ → List ℕ
 copyProcess l p t = build mostOpens (λ i. cond (eqb (i / mostObjects) t) (at l (place p (i % mostObjects))) (at l i))
 
--- the facility with f's switches and these parts
-abbrev pub with : Facility → Users → Objects → Processes → List ℕ → ℕ → Facility
-with f us os ps opens refusals =
+-- the facility with f's switches, and these counts and parts
+abbrev pub with : Facility → ℕ → Users → ℕ → Objects → Processes → List ℕ → ℕ → Facility
+with f users us entered os ps opens refusals =
     record {
       mac = f .mac;
       fc = f .fc;
       sim = f .sim;
-      users = us .count;
+      users = users;
       clearances = us .clearances;
       roles = us .roles;
       trusts = us .trusts;
-      entered = os .entered;
+      entered = entered;
       lives = os .lives;
       kinds = os .kinds;
       levels = os .levels;
@@ -194,44 +192,39 @@ with f us os ps opens refusals =
 -- The ways in which a facility changes: a process, the opens, a new user, a new object, a dropped object, the counter.
 unfoldable pub putProcess : Facility → ℕ → Process → Facility
 putProcess f p r =
-    with f (usersIn f) (objectsIn f)
-    (record {
-      runnings = set (f .runnings) p (r .running);
-      owners = set (f .owners) p (r .owner);
-      currents = set (f .currents) p (r .current .level);
-      readmarks = set (f .readmarks) p (r .readmark .level);
-      writemarks = set (f .writemarks) p (r .writemark .level);
-      automatics = set (f .automatics) p (r .automatic);
-    })
+    with f (f .users) (usersIn f) (f .entered) (objectsIn f)
+    (processesFrom
+    (set (f .runnings) p (r .running))
+    (set (f .owners) p (r .owner))
+    (set (f .currents) p (r .current .level))
+    (set (f .readmarks) p (r .readmark .level))
+    (set (f .writemarks) p (r .writemark .level))
+    (set (f .automatics) p (r .automatic)))
     (f .opens) (f .refusals)
 
 unfoldable pub putOpens : Facility → List ℕ → Facility
-putOpens f l = with f (usersIn f) (objectsIn f) (processesIn f) l (f .refusals)
+putOpens f l = with f (f .users) (usersIn f) (f .entered) (objectsIn f) (processesIn f) l (f .refusals)
 
 -- the user with the next number
 unfoldable pub putUser : Facility → User → Facility
 putUser f u =
-    with f
-    (record {
-      count = f .users + 1;
-      clearances = set (f .clearances) (f .users) (u .clearance .level);
-      roles = set (f .roles) (f .users) (u .role);
-      trusts = set (f .trusts) (f .users) (u .trusted);
-    })
-    (objectsIn f) (processesIn f) (f .opens) (f .refusals)
+    with f (f .users + 1)
+    (usersFrom
+    (set (f .clearances) (f .users) (u .clearance .level))
+    (set (f .roles) (f .users) (u .role))
+    (set (f .trusts) (f .users) (u .trusted)))
+    (f .entered) (objectsIn f) (processesIn f) (f .opens) (f .refusals)
 
 -- the object with the next number
 unfoldable pub putObject : Facility → Object → Facility
 putObject f o =
-    with f (usersIn f)
-    (record {
-      entered = f .entered + 1;
-      lives = set (f .lives) (f .entered) (o .live);
-      kinds = set (f .kinds) (f .entered) (o .kind);
-      levels = set (f .levels) (f .entered) (o .label .level);
-      categories = set (f .categories) (f .entered) (o .category);
-      datatypes = set (f .datatypes) (f .entered) (o .datatype);
-    })
+    with f (f .users) (usersIn f) (f .entered + 1)
+    (objectsFrom
+    (set (f .lives) (f .entered) (o .live))
+    (set (f .kinds) (f .entered) (o .kind))
+    (set (f .levels) (f .entered) (o .label .level))
+    (set (f .categories) (f .entered) (o .category))
+    (set (f .datatypes) (f .entered) (o .datatype)))
     (processesIn f) (f .opens) (f .refusals)
 
 -- one more user, and one more object, where there is room
@@ -244,19 +237,12 @@ addObject f o = cond (ltb (f .entered) mostObjects) (putObject f o) f
 -- a deleted object keeps its number and what else it had
 unfoldable pub dropObject : Facility → ℕ → Facility
 dropObject f t =
-    with f (usersIn f)
-    (record {
-      entered = f .entered;
-      lives = set (f .lives) t 0;
-      kinds = f .kinds;
-      levels = f .levels;
-      categories = f .categories;
-      datatypes = f .datatypes;
-    })
+    with f (f .users) (usersIn f) (f .entered)
+    (objectsFrom (set (f .lives) t 0) (f .kinds) (f .levels) (f .categories) (f .datatypes))
     (processesIn f) (f .opens) (f .refusals)
 
 unfoldable pub putRefusals : Facility → ℕ → Facility
-putRefusals f n = with f (usersIn f) (objectsIn f) (processesIn f) (f .opens) n
+putRefusals f n = with f (f .users) (usersIn f) (f .entered) (objectsIn f) (processesIn f) (f .opens) n
 
 -- one more refusal; at its stop the counter stays
 abbrev pub oneMore : ℕ → ℕ

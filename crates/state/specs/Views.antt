@@ -248,7 +248,7 @@ writing-add v m = write-bit (reading v or reading m) (writing v or writing m)
 pub process-out : (f : Facility) (p : ℕ) (r : Process) → ProcessesShaped (processesIn f) → mostProcesses ≤ p → putProcess f p r ≡ f
 unfolding putProcess
 process-out f p r s h =
-    λ i. with f (usersIn f) (objectsIn f)
+    λ i. with f (f .users) (usersIn f) (f .entered) (objectsIn f)
     (processesFrom
     (out (f .runnings) (r .running) (s .runnings) i)
     (out (f .owners) (r .owner) (s .owners) i)
@@ -264,11 +264,11 @@ process-out f p r s h =
 pub opens-out : (f : Facility) (n v : ℕ) → length (f .opens) ≡ mostOpens → mostOpens ≤ n → putOpens f (set (f .opens) n v) ≡ f
 unfolding putOpens
 opens-out f n v e h =
-    λ i. with f (usersIn f) (objectsIn f) (processesIn f) (set-out (f .opens) n v (omega arith) i) (f .refusals)
+    λ i. with f (f .users) (usersIn f) (f .entered) (objectsIn f) (processesIn f) (set-out (f .opens) n v (omega arith) i) (f .refusals)
 
 pub drop-out : (f : Facility) (t : ℕ) → length (f .lives) ≡ mostObjects → mostObjects ≤ t → dropObject f t ≡ f
 unfolding dropObject
 drop-out f t e h =
-    λ i. with f (usersIn f)
-    (objectsFrom (f .entered) (set-out (f .lives) t 0 (omega arith) i) (f .kinds) (f .levels) (f .categories) (f .datatypes))
+    λ i. with f (f .users) (usersIn f) (f .entered)
+    (objectsFrom (set-out (f .lives) t 0 (omega arith) i) (f .kinds) (f .levels) (f .categories) (f .datatypes))
     (processesIn f) (f .opens) (f .refusals)

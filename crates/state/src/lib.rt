@@ -8,7 +8,7 @@ ghost use Rattle.state.specs.Outcomes.{answersFrom, outcomeOf, numberOf,
 ghost use Prim.Native.Nat.{_<_, _≤_};
 ghost use mathlib.Core.Logic.{_≢_};
 ghost use lib.ListN.{getD, set};
-ghost use Rattle.state.specs.State.{addModes, addObject, addUser, cloned, closeObject, closeProcess, closed, copyProcess, counted, deleted, freshProcess, noProcess, objectIn, objectOf, objectsFrom, opened, place, processIn, processOf, processesFrom, putOpens, putProcess, reading, terminated, userIn, userOf, usersFrom, writing};
+ghost use Rattle.state.specs.State.{addModes, addObject, addUser, blank, cloned, closeObject, closeProcess, closed, copyProcess, counted, deleted, freshProcess, noProcess, objectIn, objectOf, objectsFrom, opened, place, processIn, processOf, processesFrom, putOpens, putProcess, reading, terminated, userIn, userOf, usersFrom, writing};
 
 // What a module answers to a call.
 pub enum Answer {
@@ -459,7 +459,7 @@ pub fn object_at<'a>(
     datatypes: &'a [u8],
     t: usize,
 ) -> Object
-    ensures { λ r. ⌜ r ≡ objectIn (objectsFrom 0 (now (lives .entry)) (now (kinds .entry)) (now (levels .entry)) (now (categories .entry)) (now (datatypes .entry))) t ⌝ }
+    ensures { λ r. ⌜ r ≡ objectIn (objectsFrom (now (lives .entry)) (now (kinds .entry)) (now (levels .entry)) (now (categories .entry)) (now (datatypes .entry))) t ⌝ }
 {
     let label = Label::of(at(levels, t));
     Object {
@@ -472,7 +472,7 @@ pub fn object_at<'a>(
 }
 
 pub fn user_at<'a>(clearances: &'a [u8], roles: &'a [u8], trusts: &'a [u8], u: usize) -> User
-    ensures { λ r. ⌜ r ≡ userIn (usersFrom 0 (now (clearances .entry)) (now (roles .entry)) (now (trusts .entry))) u ⌝ }
+    ensures { λ r. ⌜ r ≡ userIn (usersFrom (now (clearances .entry)) (now (roles .entry)) (now (trusts .entry))) u ⌝ }
 {
     let clearance = Label::of(at(clearances, u));
     User {
@@ -484,6 +484,35 @@ pub fn user_at<'a>(clearances: &'a [u8], roles: &'a [u8], trusts: &'a [u8], u: u
 
 // The changes of a facility: it is handed in and back by value. A number that is none changes nothing.
 impl Facility {
+    // The fresh facility of one switches record: no user, no object, no process, no refusal.
+    pub fn blank(mac: u8, fc: u8, sim: u8) -> Facility
+        ensures { λ x. ⌜ x ≡ blank mac fc sim ⌝ }
+    {
+        Facility {
+            mac,
+            fc,
+            sim,
+            users: 0,
+            clearances: [0; 16],
+            roles: [0; 16],
+            trusts: [0; 16],
+            entered: 0,
+            lives: [0; 128],
+            kinds: [0; 128],
+            levels: [0; 128],
+            categories: [0; 128],
+            datatypes: [0; 128],
+            runnings: [0; 32],
+            owners: [0; 32],
+            currents: [0; 32],
+            readmarks: [0; 32],
+            writemarks: [0; 32],
+            automatics: [0; 32],
+            opens: [0; 4096],
+            refusals: 0,
+        }
+    }
+
     // Process p becomes r.
     pub fn with_process(mut self, p: u8, r: Process) -> Facility
         ensures { λ x. ⌜ x ≡ putProcess self p r ⌝ }

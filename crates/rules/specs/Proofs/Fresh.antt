@@ -94,7 +94,7 @@ fresh-all : (i : ℕ) (f : Facility) (rs : List SetupRecord) → Fresh f → Fre
 unfolding enterAll
 fresh-all i f [] F = F
 fresh-all i f (r ∷ rs) F =
-    by-test (eqb (recordNumber f i r) 0)
+    by-test (eqb (recordNumber (f .users) (f .entered) i r) 0)
     (λ e. rw e (fresh-all (i + 1) (enterRecord f r) rs (fresh-record f i r F (accepts f i r (eqb-true _ _ e)))))
     (λ e. rw e fresh-refused)
 

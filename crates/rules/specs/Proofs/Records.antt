@@ -66,7 +66,7 @@ pub data Accepts (f : Facility) (i : ℕ) (r : SetupRecord) : Type 0 where
 one-kind : (n a b : ℕ) → a ≢ b → eqb n a ≡ true → eqb n b ≡ false
 one-kind n a b d h = ne-eqb n b (λ e. d (sym (eqb-true n a h) ∙ e))
 
-pub accepts : (f : Facility) (i : ℕ) (r : SetupRecord) → recordNumber f i r ≡ 0 → Accepts f i r
+pub accepts : (f : Facility) (i : ℕ) (r : SetupRecord) → recordNumber (f .users) (f .entered) i r ≡ 0 → Accepts f i r
 unfolding recordNumber fits room allowed
 accepts f i r h =
     let q15 = ask-yes _ _ _ h in

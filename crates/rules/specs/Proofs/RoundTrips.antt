@@ -13,9 +13,9 @@ use borrow.Author.Tests.{ltb-true, eqb-true, lt-ltb, le-leb, eq-eqb, ne-eqb}
 use Rattle.rules.specs.Types.{User, Object, Facility}
 use Rattle.state.specs.Tests.{_and_, _or_, ask, at, on, and-l, and-r, and-i, clash, by-test}
 use Rattle.state.specs.Views.{Shaped, user-new, user-old, object-new, object-old, add-user, add-object}
-use Rattle.state.specs.State.{mostUsers, mostObjects, objectOf, userOf, live, putUser, putObject, addUser, addObject, blank}
+use Rattle.state.specs.State.{mostUsers, mostObjects, Users, Objects, usersIn, objectsIn, objectIn, userIn, putUser, putObject, addUser, addObject, blank}
 use Rattle.rules.specs.Calls.{run}
-use Rattle.rules.specs.Setup.{SetupRecord, isSwitches, isUserRecord, isObjectRecord, firstRecord, recordsOf, bytesOf, bytesOfAll, sized, fits, room, switchesAllowed, userAllowed, objectAllowed, allowed, recordNumber, userEntered, objectEntered, enterRecord, enterAll, readSetup, fresh, isAccepted, switchesRecord, userRecord, objectRecord, firstUsers, firstLive, usersOf, liveObjects, setupRecords, setupBytes}
+use Rattle.rules.specs.Setup.{SetupRecord, isSwitches, isUserRecord, isObjectRecord, firstRecord, recordsOf, bytesOf, bytesOfAll, allowedLength, sized, fits, room, switchesAllowed, userAllowed, objectAllowed, allowed, recordNumber, userEntered, objectEntered, enterRecord, enterAll, readSetup, fresh, isAccepted, switchesRecord, userRecord, objectRecord, firstUsers, firstLive, usersOf, liveObjects, setupRecords, setupBytes}
 use Rattle.rules.specs.Promises.{SameSetup, ReadBack, RoundTrips}
 use Rattle.rules.specs.Proofs.Regular.{Regular, regular-run}
 use Rattle.rules.specs.Proofs.Fresh.{Fresh, fresh-refused, fresh-record, fresh-setup}
@@ -50,13 +50,13 @@ unfolding bytesOfAll recordsOf
 records-of-bytes [] = refl
 records-of-bytes (r ∷ rs) = ap (λ (l : List SetupRecord). r ∷ l) (records-of-bytes rs)
 
-bytes-length : (rs : List SetupRecord) → length (bytesOfAll rs) ≡ length rs * 8
+pub bytes-length : (rs : List SetupRecord) → length (bytesOfAll rs) ≡ length rs * 8
 unfolding bytesOfAll
 bytes-length [] = refl
 bytes-length (r ∷ rs) = let h = bytes-length rs in omega arith
 
 -- Lists.
-map-append {ℓ κ} : {A : Type ℓ} {B : Type κ} (g : A → B) (xs ys : List A) → map g (xs ++ ys) ≡ map g xs ++ map g ys
+pub map-append {ℓ κ} : {A : Type ℓ} {B : Type κ} (g : A → B) (xs ys : List A) → map g (xs ++ ys) ≡ map g xs ++ map g ys
 map-append g [] ys = refl
 map-append g (x ∷ xs) ys = ap (λ l. g x ∷ l) (map-append g xs ys)
 
@@ -65,15 +65,15 @@ nothing-after [] = refl
 nothing-after (x ∷ xs) = ap (λ l. x ∷ l) (nothing-after xs)
 
 -- What a new user and a new object do to the lists that are written out.
-users-kept : (n : ℕ) (f g : Facility) → ((v : ℕ) → v < n → userOf g v ≡ userOf f v) → firstUsers n g ≡ firstUsers n f
+users-kept : (n : ℕ) (x y : Users) → ((v : ℕ) → v < n → userIn y v ≡ userIn x v) → firstUsers n y ≡ firstUsers n x
 unfolding firstUsers
-users-kept zero f g h = refl
-users-kept (suc n) f g h = rw (users-kept n f g (λ v b. h v (omega arith)), h n (omega arith))
+users-kept zero x y h = refl
+users-kept (suc n) x y h = rw (users-kept n x y (λ v b. h v (omega arith)), h n (omega arith))
 
-live-kept : (n : ℕ) (f g : Facility) → ((t : ℕ) → t < n → objectOf g t ≡ objectOf f t) → firstLive n g ≡ firstLive n f
+live-kept : (n : ℕ) (x y : Objects) → ((t : ℕ) → t < n → objectIn y t ≡ objectIn x t) → firstLive n y ≡ firstLive n x
 unfolding firstLive
-live-kept zero f g h = refl
-live-kept (suc n) f g h = rw (live-kept n f g (λ t b. h t (omega arith)), h n (omega arith))
+live-kept zero x y h = refl
+live-kept (suc n) x y h = rw (live-kept n x y (λ t b. h t (omega arith)), h n (omega arith))
 
 more-users : (f : Facility) (u : User) → (putUser f u) .users ≡ suc (f .users)
 unfolding putUser
@@ -86,23 +86,23 @@ more-objects f o = add-one (f .entered)
 new-user : (f : Facility) (u : User) → Shaped f → f .users < mostUsers → usersOf (putUser f u) ≡ usersOf f ++ (u ∷ [])
 unfolding firstUsers
 new-user f u s h =
-    ap (λ (n : ℕ). firstUsers n (putUser f u)) (more-users f u)
-    ∙ rw (users-kept (f .users) f (putUser f u) (λ v b. user-old f u v (omega arith)), user-new f u s h)
+    ap (λ (n : ℕ). firstUsers n (usersIn (putUser f u))) (more-users f u)
+    ∙ rw (users-kept (f .users) (usersIn f) (usersIn (putUser f u)) (λ v b. user-old f u v (omega arith)), user-new f u s h)
 
 new-object : (f : Facility) (o : Object) → Shaped f → f .entered < mostObjects → on (o .live) ≡ true
     → liveObjects (putObject f o) ≡ liveObjects f ++ (o ∷ [])
 unfolding firstLive
 new-object f o s h v =
-    ap (λ (n : ℕ). firstLive n (putObject f o)) (more-objects f o)
-    ∙ rw (live-kept (f .entered) f (putObject f o) (λ t b. object-old f o t (omega arith)), object-new f o s h, v)
+    ap (λ (n : ℕ). firstLive n (objectsIn (putObject f o))) (more-objects f o)
+    ∙ rw (live-kept (f .entered) (objectsIn f) (objectsIn (putObject f o)) (λ t b. object-old f o t (omega arith)), object-new f o s h, v)
 
 -- The records that are written out after a record was entered: that record more.
 abbrev recordsFrom : SetupRecord → List User → List Object → List SetupRecord
 recordsFrom r us os = r ∷ (map userRecord us ++ map objectRecord os)
 
-none-live : (f : Facility) (n : ℕ) → n ≡ 0 → firstLive n f ≡ []
+none-live : (x : Objects) (n : ℕ) → n ≡ 0 → firstLive n x ≡ []
 unfolding firstLive
-none-live f n z = ap (λ (k : ℕ). firstLive k f) z
+none-live x n z = ap (λ (k : ℕ). firstLive k x) z
 
 user-switches : (f : Facility) (u : User) → switchesRecord (putUser f u) ≡ switchesRecord f
 unfolding putUser
@@ -118,7 +118,7 @@ object-switches f o = refl
 
 object-users : (f : Facility) (o : Object) → usersOf (putObject f o) ≡ usersOf f
 unfolding putObject
-object-users f o = users-kept (f .users) f (putObject f o) (λ v b. refl)
+object-users f o = refl
 
 user-last : (r : SetupRecord) (us : List User) (u : User) → recordsFrom r (us ++ (u ∷ [])) [] ≡ recordsFrom r us [] ++ (userRecord u ∷ [])
 user-last r us u = simp (map-append, nothing-after)
@@ -131,9 +131,9 @@ user-written : (f : Facility) (u : User) → Shaped f → f .users < mostUsers �
     → setupRecords (putUser f u) ≡ setupRecords f ++ (userRecord u ∷ [])
 unfolding setupRecords
 user-written f u s h z =
-    (λ i. recordsFrom (user-switches f u i) (new-user f u s h i) (none-live (putUser f u) _ (user-objects f u ∙ z) i))
+    (λ i. recordsFrom (user-switches f u i) (new-user f u s h i) (none-live (objectsIn (putUser f u)) _ (user-objects f u ∙ z) i))
     ∙ user-last (switchesRecord f) (usersOf f) u
-    ∙ ap (λ (os : List Object). recordsFrom (switchesRecord f) (usersOf f) os ++ (userRecord u ∷ [])) (sym (none-live f _ z))
+    ∙ ap (λ (os : List Object). recordsFrom (switchesRecord f) (usersOf f) os ++ (userRecord u ∷ [])) (sym (none-live (objectsIn f) _ z))
 
 object-written : (f : Facility) (o : Object) → Shaped f → f .entered < mostObjects → on (o .live) ≡ true
     → setupRecords (putObject f o) ≡ setupRecords f ++ (objectRecord o ∷ [])
@@ -157,7 +157,7 @@ all-written : (rs : List SetupRecord) (i : ℕ) (f : Facility) → Fresh f → i
 unfolding enterAll
 all-written [] i f F n h = sym (nothing-after _)
 all-written (r ∷ rs) i f F n h =
-    by-test (eqb (recordNumber f i r) 0)
+    by-test (eqb (recordNumber (f .users) (f .entered) i r) 0)
     (λ e.
     let A = accepts f i r (eqb-true _ _ e) in
     rw e (all-written rs (i + 1) (enterRecord f r) (fresh-record f i r F A) (omega arith) (rw e at h)
@@ -178,7 +178,7 @@ first-written : (r : SetupRecord) (rs : List SetupRecord) → isAccepted (enterA
     → setupRecords (enterAll 0 (blank 0 0 0) (r ∷ rs) .facility) ≡ r ∷ rs
 unfolding enterAll
 first-written r rs h =
-    by-test (eqb (recordNumber (blank 0 0 0) 0 r) 0)
+    by-test (eqb (recordNumber ((blank 0 0 0) .users) ((blank 0 0 0) .entered) 0 r) 0)
     (λ e.
     let A = accepts (blank 0 0 0) 0 r (eqb-true _ _ e) in
     rw e (all-written rs 1 (enterRecord (blank 0 0 0) r) (fresh-record _ 0 r fresh-refused A) (omega arith) (rw e at h)
@@ -193,7 +193,7 @@ from-records (suc n) s z l h =
     rw (first-written (firstRecord s) (recordsOf n (drop 8 s)) h) (bytes-of-records (suc n) s l)
 
 sized-length : (s : List ℕ) → sized s ≡ true → (length s ≡ length s / 8 * 8) × (length s / 8 ≢ 0)
-unfolding sized
+unfolding allowedLength
 sized-length s e =
     let d : length s % 8 ≡ 0 = eqb-true _ _ (and-l _ _ e) in
     let p : 0 < length s = ltb-true _ _ (and-l _ _ (and-r _ _ e)) in
@@ -224,29 +224,30 @@ UserFit u = userAllowed (userRecord u) ≡ true
 abbrev ObjectFit : Object → Type 0
 ObjectFit o = (objectAllowed (objectRecord o) ≡ true) × (o .live ≡ 1)
 
-users-fit : (n : ℕ) (f : Facility) → ((u : ℕ) → u < n → UserFit (userOf f u)) → All UserFit (firstUsers n f)
+users-fit : (n : ℕ) (f : Users) → ((u : ℕ) → u < n → UserFit (userIn f u)) → All UserFit (firstUsers n f)
 unfolding firstUsers
 users-fit zero f h = tt
 users-fit (suc n) f h = all-last UserFit (firstUsers n f) _ (users-fit n f (λ u b. h u (omega arith))) (h n (omega arith), tt)
 
-live-fit : (f : Facility) (t : ℕ) → objectAllowed (objectRecord (objectOf f t)) ≡ true → All ObjectFit (cond (live f t) (objectOf f t ∷ []) [])
-live-fit f t a = by-test (live f t) (λ v. rw v ((a, eqb-true _ _ v), tt)) (λ v. rw v tt)
+live-fit : (f : Objects) (t : ℕ) → objectAllowed (objectRecord (objectIn f t)) ≡ true
+    → All ObjectFit (cond (on ((objectIn f t) .live)) (objectIn f t ∷ []) [])
+live-fit f t a = by-test (on ((objectIn f t) .live)) (λ v. rw v ((a, eqb-true _ _ v), tt)) (λ v. rw v tt)
 
-objects-fit : (n : ℕ) (f : Facility) → ((t : ℕ) → t < n → objectAllowed (objectRecord (objectOf f t)) ≡ true) → All ObjectFit (firstLive n f)
+objects-fit : (n : ℕ) (f : Objects) → ((t : ℕ) → t < n → objectAllowed (objectRecord (objectIn f t)) ≡ true) → All ObjectFit (firstLive n f)
 unfolding firstLive
 objects-fit zero f h = tt
 objects-fit (suc n) f h =
     all-last ObjectFit (firstLive n f) _ (objects-fit n f (λ t b. h t (omega arith))) (live-fit f n (h n (omega arith)))
 
-users-length : (n : ℕ) (f : Facility) → length (firstUsers n f) ≡ n
+pub users-length : (n : ℕ) (f : Users) → length (firstUsers n f) ≡ n
 unfolding firstUsers
 users-length zero f = refl
 users-length (suc n) f = let e = users-length n f in simp length-append (omega arith)
 
-live-length : (f : Facility) (t : ℕ) → length {A = Object} (cond (live f t) (objectOf f t ∷ []) []) ≤ 1
-live-length f t = by-test (live f t) (λ v. rw v (omega arith)) (λ v. rw v (omega arith))
+live-length : (f : Objects) (t : ℕ) → length {A = Object} (cond (on ((objectIn f t) .live)) (objectIn f t ∷ []) []) ≤ 1
+live-length f t = by-test (on ((objectIn f t) .live)) (λ v. rw v (omega arith)) (λ v. rw v (omega arith))
 
-objects-length : (n : ℕ) (f : Facility) → length (firstLive n f) ≤ n
+pub objects-length : (n : ℕ) (f : Objects) → length (firstLive n f) ≤ n
 unfolding firstLive
 objects-length zero f = omega arith
 objects-length (suc n) f =
@@ -255,16 +256,16 @@ objects-length (suc n) f =
     simp length-append (omega arith)
 
 -- a record that is accepted at its place leaves the rest to be asked
-goes-on : (i : ℕ) (f : Facility) (r : SetupRecord) (rs : List SetupRecord) → recordNumber f i r ≡ 0
+goes-on : (i : ℕ) (f : Facility) (r : SetupRecord) (rs : List SetupRecord) → recordNumber (f .users) (f .entered) i r ≡ 0
     → isAccepted (enterAll (i + 1) (enterRecord f r) rs .outcome) ≡ true → isAccepted (enterAll i f (r ∷ rs) .outcome) ≡ true
 unfolding enterAll
 goes-on i f r rs e h = rw (eq-eqb _ 0 e) h
 
-user-number : (i : ℕ) (f : Facility) (u : User) → i ≢ 0 → f .entered ≡ 0 → f .users < mostUsers → UserFit u → recordNumber f i (userRecord u) ≡ 0
+user-number : (i : ℕ) (f : Facility) (u : User) → i ≢ 0 → f .entered ≡ 0 → f .users < mostUsers → UserFit u → recordNumber (f .users) (f .entered) i (userRecord u) ≡ 0
 unfolding recordNumber fits room allowed ask _and_ _or_
 user-number i f u n z h a = rw (ne-eqb i 0 n, eq-eqb (f .entered) 0 z, lt-ltb _ _ h, a)
 
-object-number : (i : ℕ) (f : Facility) (o : Object) → i ≢ 0 → f .entered < mostObjects → ObjectFit o → recordNumber f i (objectRecord o) ≡ 0
+object-number : (i : ℕ) (f : Facility) (o : Object) → i ≢ 0 → f .entered < mostObjects → ObjectFit o → recordNumber (f .users) (f .entered) i (objectRecord o) ≡ 0
 unfolding recordNumber fits room allowed ask _and_ _or_
 object-number i f o n h a = rw (ne-eqb i 0 n, lt-ltb _ _ h, a .0)
 
@@ -298,7 +299,7 @@ users-accepted (u ∷ us) os i f n z h k a b =
     goes-on i f (userRecord u) (map userRecord us ++ map objectRecord os) (user-number i f u n z (omega arith) (a .0))
     (users-accepted us os (i + 1) (enterRecord f (userRecord u)) (omega arith) (user-entered f u (omega arith) ∙ z) (omega arith) k (a .1) b)
 
-switches-number : (f : Facility) → switchesAllowed (switchesRecord f) ≡ true → recordNumber (blank 0 0 0) 0 (switchesRecord f) ≡ 0
+switches-number : (f : Facility) → switchesAllowed (switchesRecord f) ≡ true → recordNumber ((blank 0 0 0) .users) ((blank 0 0 0) .entered) 0 (switchesRecord f) ≡ 0
 unfolding recordNumber fits room allowed ask
 switches-number f a = rw a
 
@@ -315,32 +316,32 @@ unfolding setupRecords
 all-accepted f R =
     let z = switches-entered f in
     let w = switches-users f in
-    let lu = users-length (f .users) f in
-    let lo = objects-length (f .entered) f in
+    let lu = users-length (f .users) (usersIn f) in
+    let lo = objects-length (f .entered) (objectsIn f) in
     goes-on 0 (blank 0 0 0) (switchesRecord f) _ (switches-number f (R .switches))
     (users-accepted (usersOf f) (liveObjects f) 1 (enterRecord (blank 0 0 0) (switchesRecord f)) (omega arith) z
-    (omega (arith, R .sound .users)) (omega (arith, R .sound .entered)) (users-fit (f .users) f (R .user)) (objects-fit (f .entered) f (R .object)))
+    (omega (arith, R .sound .users)) (omega (arith, R .sound .entered)) (users-fit (f .users) (usersIn f) (R .user)) (objects-fit (f .entered) (objectsIn f) (R .object)))
 
 -- the bytes that are written out have an allowed length, and are read as the records that they were made of
-map-length {ℓ κ} : {A : Type ℓ} {B : Type κ} (g : A → B) (xs : List A) → length (map g xs) ≡ length xs
+pub map-length {ℓ κ} : {A : Type ℓ} {B : Type κ} (g : A → B) (xs : List A) → length (map g xs) ≡ length xs
 map-length g [] = refl
 map-length g (x ∷ xs) = ap suc (map-length g xs)
 
-records-length : (f : Facility) → length (setupRecords f) ≡ 1 + (f .users + length (liveObjects f))
+pub records-length : (f : Facility) → length (setupRecords f) ≡ 1 + (f .users + length (liveObjects f))
 unfolding setupRecords
 records-length f =
-    let lu = users-length (f .users) f in
+    let lu = users-length (f .users) (usersIn f) in
     let mu = map-length userRecord (usersOf f) in
     let mo = map-length objectRecord (liveObjects f) in
     let la = length-append (map userRecord (usersOf f)) (map objectRecord (liveObjects f)) in
     omega arith
 
 bytes-sized : (f : Facility) → Sound f → sized (setupBytes f) ≡ true
-unfolding sized setupBytes
+unfolding allowedLength setupBytes
 bytes-sized f S =
     let b = bytes-length (setupRecords f) in
     let r = records-length f in
-    let lo = objects-length (f .entered) f in
+    let lo = objects-length (f .entered) (objectsIn f) in
     let n : ℕ = length (bytesOfAll (setupRecords f)) in
     and-i _ _ (eq-eqb (n % 8) 0 (omega arith)) (and-i _ _ (lt-ltb 0 n (omega arith)) (le-leb n 1160 (omega (arith, S .users, S .entered))))
 
@@ -401,7 +402,7 @@ users-told f = these-users (usersOf f) (liveObjects f)
 
 objects-told : (f : Facility) → Regular f → objectsAmong (setupRecords f) ≡ liveObjects f
 unfolding setupRecords objectsAmong
-objects-told f R = these-objects (usersOf f) (liveObjects f) (objects-fit (f .entered) f (R .object))
+objects-told f R = these-objects (usersOf f) (liveObjects f) (objects-fit (f .entered) (objectsIn f) (R .object))
 
 switches-told : (f : Facility) → firstOf (setupRecords f) ≡ switchesRecord f
 unfolding setupRecords firstOf

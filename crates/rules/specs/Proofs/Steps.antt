@@ -17,7 +17,7 @@ use Rattle.state.specs.Answers.{passes, passes-grant}
 use Rattle.rules.specs.Effects.{openBy, created, effectFrom, effectBy}
 use Rattle.rules.specs.Calls.{accepted, afterRefusal, after, trustedLogin}
 use Rattle.rules.specs.Requests.{Request, Login, Clone, SendSignal, SetLevel, Terminate, Create, OnObject, Unknown, Class, Absent, Reads, Writes, Both, NoCondition, OpenChange, Keep, Add, Close, CloseAll, requestOf, isAbsent, isNoCondition, alters, isLogin, inDirectory, openChange}
-use Rattle.rules.specs.Matter.{nothing, Account, processGains, objectGains, assign, takes, gives, carry, carryBy, entered}
+use Rattle.rules.specs.Matter.{nothing, Account, processGains, objectGains, assign, takes, gives, carry, carryBy, afterEntry}
 use Rattle.rules.specs.Modules.{viewOf, classIn, macObject, macRule, moved, levelled}
 use Rattle.rules.specs.Questions.{openFor, number}
 use Rattle.rules.specs.Proofs.Moves.{Moved, Closed, move-moved, move-closed, move-over, inv-move, object-granted, moved-is, levelled-moved}
@@ -277,8 +277,8 @@ step Unknown f a c I e u q = I
 
 -- every call
 pub inv-after : (f : Facility) (a : Account) (c : Call) → Inv f a → trustedLogin f c ≡ false
-    → Inv (after f c) (entered a (record { call = c; accepted = accepted f c }))
-unfolding after entered trustedLogin afterRefusal _and_
+    → Inv (after f c) (afterEntry a (record { call = c; accepted = accepted f c }))
+unfolding after afterEntry trustedLogin afterRefusal _and_
 inv-after f a c I u =
     by-test (accepted f c)
     (λ h. rw h (step (requestOf (c .request)) f a c I refl (rw h at u) (passed (requestOf (c .request)) (viewOf f c) c (accepted-zero f c h))))

@@ -18,7 +18,7 @@ use Rattle.state.specs.Answers.{passes, combine-not-cared}
 use Rattle.rules.specs.Effects.{openBy, effectFrom, effectBy}
 use Rattle.rules.specs.Calls.{accepted, after, trustedLogin, trustedLogins}
 use Rattle.rules.specs.Requests.{Request, OnObject, Class, Absent, Reads, Writes, Both, NoCondition, OpenChange, Keep, Add, Close, CloseAll, lastRequest, requestOf, classOf, isAbsent, isNoCondition, isLogin, openChange}
-use Rattle.rules.specs.Matter.{Account, processGains, objectGains, takes, gives, carry, carryBy, entered, account, history}
+use Rattle.rules.specs.Matter.{Account, processGains, objectGains, takes, gives, carry, carryBy, afterEntry, account, history}
 use Rattle.rules.specs.Modules.{viewOf, classIn, macClass, macObject, macRule, macAnswer, fcAnswer, simAnswer, answers, moveBy, moved}
 use Rattle.rules.specs.Questions.{openFor, numberBy}
 use Rattle.rules.specs.Proofs.Passed.{all-passed}
@@ -194,8 +194,8 @@ unfolding after
 after-is f c k e h = rw (h, e)
 
 recorded-is : (f : Facility) (a : Account) (c : Call) (k : Request) → requestOf (c .request) ≡ k → accepted f c ≡ true
-    → entered a (record { call = c; accepted = accepted f c }) ≡ carryBy k a c
-unfolding entered
+    → afterEntry a (record { call = c; accepted = accepted f c }) ≡ carryBy k a c
+unfolding afterEntry
 recorded-is f a c k e h = rw (h, e)
 
 login-is : (f : Facility) (c : Call) (k : Request) → requestOf (c .request) ≡ k → accepted f c ≡ true → (isLogin k and trustedUser f (c .extra)) ≡ false

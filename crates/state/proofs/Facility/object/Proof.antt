@@ -7,7 +7,6 @@ object-at-requires : tie.Need-object-at-requires
 object-at-requires c κs = search needs
 
 returns : tie.Need-returns
-unfolding objectIn
 returns c = c .object-at .ensures
 
 pub object-spec : {M : Type 1} → statement M

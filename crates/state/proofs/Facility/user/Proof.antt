@@ -7,7 +7,6 @@ user-at-requires : tie.Need-user-at-requires
 user-at-requires c κs = search needs
 
 returns : tie.Need-returns
-unfolding userIn
 returns c = c .user-at .ensures
 
 pub user-spec : {M : Type 1} → statement M

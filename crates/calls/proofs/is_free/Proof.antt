@@ -1,0 +1,26 @@
+use Rattle.calls.proofs.is_free.Statement.{statement}
+use Rattle.calls.proofs.is_free.Tie as tie
+use borrow.Author.Needs.{needs}
+use Rattle.state.specs.Tests.{_and_}
+use Rattle.rules.specs.Questions.{isFree}
+
+is-login-requires : tie.Need-is-login-requires
+is-login-requires c κs = search needs
+
+only-if-requires : tie.Need-only-if-requires
+only-if-requires c κs = search needs
+
+is-clone-requires : tie.Need-is-clone-requires
+is-clone-requires c κs = search needs
+
+only-if-requires-2 : tie.Need-only-if-requires-2
+only-if-requires-2 c κs = search needs
+
+returns : tie.Need-returns
+unfolding isFree _and_
+returns c = rw (c .only-if2 .ensures, c .before .before .before .only-if .ensures, c .before .before .is-clone .ensures, c .before .before .before .before .before .is-login .ensures)
+
+pub is-free-spec : {M : Type 1} → statement M
+is-free-spec =
+    tie.close
+    (tie.spec is-login-requires only-if-requires is-clone-requires only-if-requires-2 returns)

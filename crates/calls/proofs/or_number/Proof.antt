@@ -1,0 +1,14 @@
+use Rattle.calls.proofs.or_number.Statement.{statement}
+use Rattle.calls.proofs.or_number.Tie as tie
+use Rattle.state.specs.Tests.{ask}
+
+returns : tie.Need-returns
+unfolding ask
+returns c = rw (c .if1 .taken)
+
+returns-2 : tie.Need-returns-2
+unfolding ask
+returns-2 c = rw (c .if1 .left)
+
+pub or-number-spec : {M : Type 1} → statement M
+or-number-spec = tie.close (tie.spec returns returns-2)

@@ -1,0 +1,146 @@
+-- The ledger that is kept from a set-up on over any list of calls stands for the account of that list. Nothing is supposed of either.
+use Prim.Native.Nat.{ℕ, _+_, _<_}
+use mathlib.Core.Path.{_≡_, refl, sym, _∙_, ap}
+use mathlib.Core.Bool.{true, cond}
+use mathlib.Core.List.{List, [], _∷_}
+use native.Mathlib.Omega.{arith}
+use borrow.Author.Tests.{ltb-true, lt-ltb}
+use Rattle.state.specs.declared.Call.{Call}
+use Rattle.state.specs.declared.Object.{Object}
+use Rattle.state.specs.declared.Facility.{Facility}
+use Rattle.state.specs.Tests.{at, by-test}
+use Rattle.state.specs.Outcomes.{denies}
+use Rattle.state.specs.State.{mostObjects, live, putProcess, putOpens, putObject, addObject, dropObject, putRefusals, counted}
+use Rattle.rules.specs.declared.Request.{Request}
+use Rattle.rules.specs.declared.Request.the-variants.{Login, Clone, SendSignal, SetLevel, Terminate, Create, OnObject, Unknown}
+use Rattle.rules.specs.declared.OpenChange.{OpenChange}
+use Rattle.rules.specs.declared.OpenChange.the-variants.{Keep, Add, Close, CloseAll}
+use Rattle.rules.specs.Effects.{openBy, effectFrom, effectBy}
+use Rattle.rules.specs.Calls.{accepted, afterRefusal, after}
+use Rattle.rules.specs.Requests.{requestOf, classOf, isCreate, inDirectory, openChange}
+use Rattle.rules.specs.Setup.{fresh}
+use Rattle.rules.specs.Matter.{Account, processGains, objectGains, assign, enter, takes, gives, carry, carryBy, account, history, accountAfter, holds}
+use Rattle.rules.specs.Modules.{viewOf, moved}
+use Rattle.rules.specs.Questions.{number}
+use Rattle.rules.specs.Proofs.Regular.{Regular, regular-after}
+use Rattle.rules.specs.Proofs.Fresh.{fresh-setup}
+use Rattle.rules.specs.Proofs.Sound.{Sound}
+use Rattle.rules.specs.Proofs.Passed.{Passed, passed, accepted-zero}
+use Rattle.matter.specs.declared.Ledger.{Ledger}
+use Rattle.matter.specs.Held.{heldBy, accountOf, startOf, carriedOf, stepOf}
+use Rattle.matter.specs.Tied.{Sized, InRange, call-carried, sized-step, ledgerAfter, AllInRange, done, more, followed, started, sized-start}
+
+-- an accepted call has numbers in range of a ledger with as many objects as the facility
+pub accepted-in-range : (f : Facility) (l : Ledger) (c : Call) → Sound f → l .next ≡ f .entered → accepted f c ≡ true → InRange l c
+accepted-in-range f l c S n h =
+    let q = passed (requestOf (c .request)) (viewOf f c) c (accepted-zero f c h) in
+    record {
+      caller = q .process;
+      cloned = λ k. ltb-true _ _ (rw k at (q .cloned));
+      object = λ k.
+          let a : live f (c .target) ≡ true = rw k at (q .alive) in
+          let b = S .alive (c .target) a in
+          omega (arith, S .entered);
+      number = λ k. let r : f .entered < mostObjects = ltb-true _ _ (rw k at (q .room)) in omega arith;
+    }
+
+-- An accepted create moves the account's next number and the facility's count by one, every other call neither.
+carry-next : (k : Request) (a : Account) (c : Call) → (carryBy k a c) .next ≡ a .next + cond (isCreate k) 1 0
+unfolding carryBy assign carry processGains objectGains enter
+carry-next Login a c = omega arith
+carry-next Clone a c = omega arith
+carry-next SendSignal a c = omega arith
+carry-next SetLevel a c = omega arith
+carry-next Terminate a c = omega arith
+carry-next Unknown a c = omega arith
+carry-next Create a c = by-test (inDirectory (c .extra)) (λ e. rw e) (λ e. rw e)
+carry-next OnObject a c =
+    let k = classOf (c .request) (a .kinds (c .target)) in
+    by-test (takes (c .request) k) (λ d. rw d (omega arith))
+    (λ d. by-test (gives (c .request) k) (λ e. rw (d, e) (omega arith)) (λ e. rw (d, e) (omega arith)))
+
+open-entered : (o : OpenChange) (f : Facility) (p t : ℕ) → (openBy o f p t) .entered ≡ f .entered
+unfolding openBy putOpens dropObject
+open-entered Keep f p t = refl
+open-entered (Add m) f p t = refl
+open-entered Close f p t = refl
+open-entered CloseAll f p t = refl
+
+add-entered : (f : Facility) (o : Object) → f .entered < mostObjects → (addObject f o) .entered ≡ f .entered + 1
+unfolding addObject putObject
+add-entered f o h = rw (lt-ltb _ _ h)
+
+effect-entered : (k : Request) (f : Facility) (c : Call) → Passed k (viewOf f c) c → (effectBy k f c) .entered ≡ f .entered + cond (isCreate k) 1 0
+unfolding effectFrom putProcess putOpens
+effect-entered Login f c q = omega arith
+effect-entered Clone f c q = omega arith
+effect-entered SendSignal f c q = omega arith
+effect-entered Unknown f c q = omega arith
+effect-entered SetLevel f c q = omega arith
+effect-entered Terminate f c q = omega arith
+effect-entered Create f c q =
+    by-test (inDirectory (c .extra))
+    (λ e. rw e (add-entered (putProcess f (c .process) _) _ (ltb-true _ _ (q .room))))
+    (λ e. rw e (add-entered f _ (ltb-true _ _ (q .room))))
+effect-entered OnObject f c q =
+    let e = open-entered (openChange (c .request)) (putProcess f (c .process) (moved (viewOf f c) c)) (c .process) (c .target) in
+    omega arith
+
+refused-entered : (f : Facility) (n : ℕ) → (afterRefusal f n) .entered ≡ f .entered
+unfolding afterRefusal counted putRefusals
+refused-entered f n = by-test (denies n) (λ h. rw h) (λ h. rw h)
+
+account-next : (l : Ledger) → accountOf l .next ≡ l .next
+unfolding accountOf
+account-next l = refl
+
+next-carried : (f : Facility) (l : Ledger) (c : Call) → Sized l → Sound f → l .next ≡ f .entered → accepted f c ≡ true
+    → (carriedOf (requestOf (c .request)) l c) .next ≡ (effectBy (requestOf (c .request)) f c) .entered
+next-carried f l c z S n h =
+    let k = requestOf (c .request) in
+    let q = passed k (viewOf f c) c (accepted-zero f c h) in
+    sym (account-next (carriedOf k l c))
+    ∙ ap (λ (a : Account). a .next) (call-carried k l c z (accepted-in-range f l c S n h))
+    ∙ carry-next k (accountOf l) c
+    ∙ ap (λ (m : ℕ). m + cond (isCreate k) 1 0) (account-next l ∙ n)
+    ∙ sym (effect-entered k f c q)
+
+next-kept : (f : Facility) (l : Ledger) (c : Call) → Sized l → Sound f → l .next ≡ f .entered
+    → (stepOf l c (accepted f c)) .next ≡ (after f c) .entered
+unfolding stepOf after
+next-kept f l c z S n =
+    by-test (accepted f c)
+    (λ h. rw h (next-carried f l c z S n h))
+    (λ h. rw h (n ∙ sym (refused-entered f (number f c))))
+
+all-in-range : (cs : List Call) (f : Facility) (l : Ledger) → Sized l → Regular f → l .next ≡ f .entered → AllInRange l (history f cs)
+unfolding history
+all-in-range [] f l z R n = done
+all-in-range (c ∷ cs) f l z R n =
+    more (λ h. accepted-in-range f l c (R .sound) n h)
+    (all-in-range cs (after f c) (stepOf l c (accepted f c)) (sized-step l c (accepted f c) z) (regular-after f c R) (next-kept f l c z (R .sound) n))
+
+-- the ledger after a list of calls from the fresh facility of a set-up
+abbrev pub ledgerOf : List ℕ → List Call → Ledger
+ledgerOf s cs = ledgerAfter (startOf (fresh s .entered) (fresh s .kinds)) (history (fresh s) cs)
+
+start-next : (n : ℕ) (kinds : List ℕ) → (startOf n kinds) .next ≡ n
+unfolding startOf
+start-next n kinds = refl
+
+pub account-kept : (s : List ℕ) (cs : List Call) → accountOf (ledgerOf s cs) ≡ accountAfter s cs
+account-kept s cs =
+    let f = fresh s in
+    let R = fresh-setup s .regular in
+    let l = startOf (f .entered) (f .kinds) in
+    let z = sized-start (f .entered) (f .kinds) (R .sound .shaped .objects .kinds) in
+    followed l (history f cs) z (all-in-range cs f l z R (start-next (f .entered) (f .kinds)))
+    ∙ ap (λ (a : Account). account a (history f cs)) (started f (R .sound .entered))
+
+-- what the code answers of an object is what the paper says
+objects-held : (l : Ledger) (b a : ℕ) → heldBy (l .objects) b a ≡ accountOf l .objects b a
+unfolding accountOf
+objects-held l b a = refl
+
+pub held-exactly : (s : List ℕ) (cs : List Call) (b a : ℕ) → heldBy (ledgerOf s cs .objects) b a ≡ holds s cs b a
+held-exactly s cs b a = objects-held (ledgerOf s cs) b a ∙ ap (λ (x : Account). x .objects b a) (account-kept s cs)

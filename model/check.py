@@ -1,0 +1,286 @@
+"""Self-check of the model against the paper: python3 model/check.py"""
+
+import os
+import random
+import subprocess
+import sys
+import tempfile
+
+import model
+import run
+from model import (CLONE, CLOSE, CREATE, DELETE, LOGIN, READ, READ_OPEN,
+                   READ_WRITE_OPEN, SEND_SIGNAL, SET_LEVEL, TERMINATE, WRITE,
+                   WRITE_OPEN)
+
+passed = 0
+
+
+def check(got, wanted, what):
+    global passed
+    assert got == wanted, "%s: got %r, wanted %r" % (what, got, wanted)
+    passed += 1
+
+
+def switches(mac, fc, sim):
+    return bytes([3, mac, fc, sim, 0, 0, 0, 0])
+
+
+def user(clearance, role=0, trusted=0):
+    return bytes([1, clearance, role, trusted, 0, 0, 0, 0])
+
+
+def thing(kind, level, category=0, data_type=0):
+    return bytes([2, kind, level, category, data_type, 0, 0, 0])
+
+
+def after(setup, *calls):
+    """The facility of a set-up after calls that are all accepted."""
+    number, _, facility = model.read_setup(setup)
+    assert number == 0
+    for call in calls:
+        outcome = model.enforce(facility, call)
+        assert outcome.number == 0, (call, outcome.number)
+    return facility
+
+
+def answers(setup, calls, last):
+    """number and combined answer of the last call, by query and by enforce"""
+    facility = after(setup, *calls)
+    asked = tuple(model.query(facility, last))
+    done = tuple(model.enforce(facility, last))
+    assert asked == done
+    return done[0], done[4]
+
+
+# --- The worked example, to the byte --------------------------------------
+
+EXAMPLE = (switches(1, 0, 0) + user(2)
+           + thing(0, 1) + thing(0, 2) + thing(0, 0))
+EXAMPLE_CALLS = bytes([21, 0, 0, 0, 13, 0, 1, 0, 20, 0, 0, 0, 12, 0, 1, 0,
+                       19, 0, 0, 0])
+EXAMPLE_LINES = b"""1 21 0 0 0 0 1 0
+2 13 0 1 0 0 1 2
+3 20 0 0 0 12 2 2
+4 12 0 1 0 0 1 2
+5 19 0 0 0 9 0 2
+"""
+
+
+def program(setup, calls):
+    here = os.path.dirname(os.path.abspath(__file__))
+    with tempfile.TemporaryDirectory() as folder:
+        name = os.path.join(folder, "setup.bin")
+        if setup is not None:
+            with open(name, "wb") as file:
+                file.write(setup)
+        return subprocess.run([sys.executable, os.path.join(here, "run.py"), name],
+                              input=calls, stdout=subprocess.PIPE,
+                              check=True).stdout
+
+
+check(program(EXAMPLE, EXAMPLE_CALLS), EXAMPLE_LINES, "worked example")
+check(program(EXAMPLE, EXAMPLE_CALLS + b"\0\1\2"), EXAMPLE_LINES + b"short\n",
+      "short")
+check(program(EXAMPLE, b""), b"", "no calls")
+check(program(EXAMPLE, b"\7"), b"short\n", "short alone")
+check(program(None, EXAMPLE_CALLS), b"set-up 14 0\n", "unreadable set-up")
+check(program(EXAMPLE[:16] + b"\2\4\0\0\0\0\0\0", b"\0"), b"set-up 17 2\n",
+      "refused set-up")
+check(run.run(EXAMPLE, bytes([21, 0, 0, 0, 21, 0, 0, 0, 18, 0, 9, 9, 18, 0, 0,
+                              0, 21, 32, 0, 0, 22, 200, 0, 0]))[0],
+      ["1 21 0 0 0 0 1 0", "2 21 0 0 0 4 0 0", "3 18 0 9 9 0 1 -",
+       "4 18 0 0 0 3 0 -", "5 21 32 0 0 2 0 -", "6 22 200 0 0 1 0 -"],
+      "level or hyphen")
+
+# --- Edges ----------------------------------------------------------------
+
+# Files of levels 0 to 3 have the numbers 0 to 3.
+FILES = switches(1, 0, 0) + user(2) + b"".join(thing(0, n) for n in range(4))
+IN = (LOGIN, 0, 0, 0)
+YES, NO, OPEN_QUESTION = (0, 1), (12, 2), (13, 3)
+
+check(answers(FILES, [IN], (READ_OPEN, 0, 2, 0)), YES, "edge 1")
+check(answers(FILES, [IN], (READ_OPEN, 0, 3, 0)), NO, "edge 1, level 3")
+READ_2 = [IN, (READ_OPEN, 0, 2, 0), (READ, 0, 2, 0)]
+check(answers(FILES, READ_2, (WRITE_OPEN, 0, 1, 0)), NO, "edge 2")
+check(answers(FILES, READ_2, (WRITE_OPEN, 0, 2, 0)), YES, "edge 2, level 2")
+check(answers(FILES, READ_2 + [(CLOSE, 0, 2, 0)], (WRITE_OPEN, 0, 1, 0)), NO,
+      "edge 2, closed")
+WROTE_1 = [IN, (WRITE_OPEN, 0, 1, 0)]
+check(answers(FILES, WROTE_1, (READ_OPEN, 0, 2, 0)), NO, "edge 3")
+check(answers(FILES, WROTE_1, (READ_OPEN, 0, 1, 0)), YES, "edge 3, level 1")
+for level in (0, 1):
+    check(answers(FILES, [IN, (SET_LEVEL, 0, 0, level), (SET_LEVEL, 0, 0, level)],
+                  (WRITE_OPEN, 0, level + 1, 0)), NO, "edge 4")
+check(model.combine(3, 2), 3, "edge 5")
+check(model.combine(0, 1), 1, "edge 5, granted")
+check(answers(FILES, READ_2 + [(CLONE, 0, 7, 0)], (WRITE_OPEN, 7, 1, 0)), NO,
+      "edge 6")
+check(answers(FILES, READ_2 + [(CLONE, 0, 7, 0)], (READ, 7, 2, 0)), YES,
+      "clone copies opens")
+check(answers(FILES, [IN], (CLONE, 0, 0, 0)), (4, 0), "clone onto itself")
+for e in range(4):
+    for held in (126, 127, 128):
+        setup = switches(1, 1, 1) + user(0) + thing(1, 0) * held
+        _, _, facility = model.read_setup(setup)
+        model.enforce(facility, IN)
+        for number in range(held, 128):
+            outcome = tuple(model.enforce(facility, (CREATE, 0, 0, e)))
+            check((outcome[0], outcome[5]), (0, number), "create to the 128th")
+        check(tuple(model.enforce(facility, (CREATE, 0, 0, e))),
+              (10, 0, 0, 0, 0, 255), "the 129th")
+check(model.read_setup(b"")[:2], (14, 0), "set-up of 0 bytes")
+
+# --- Table 4.7 by its ten rows --------------------------------------------
+
+for a, b, both in ((0, 0, 0), (0, 1, 1), (0, 2, 2), (0, 3, 3), (1, 1, 1),
+                   (1, 2, 2), (1, 3, 3), (2, 2, 2), (2, 3, 3), (3, 3, 3)):
+    check((model.combine(a, b), model.combine(b, a)), (both, both), "table 4.7")
+
+# --- Set-up refusals ------------------------------------------------------
+
+def refusal(setup):
+    number, index, facility = model.read_setup(setup)
+    if number != 0:
+        check(model.setup_bytes(facility), switches(0, 0, 0), "refused: all off")
+    return number, index
+
+
+SMALL = switches(1, 1, 1) + user(15, 2, 1) + user(0) + thing(3, 15, 2, 1) + thing(0, 255, 255)
+check(refusal(SMALL), (0, 0), "accepted")
+check(refusal(switches(0, 0, 0)), (0, 0), "switches alone")
+FULL = switches(1, 0, 1) + user(3) * 16 + thing(1, 2) * 128
+check((len(FULL), refusal(FULL)), (1160, (0, 0)), "the longest")
+for length in list(range(0, 8)) + list(range(33, 40)):
+    check(refusal((SMALL + SMALL)[:length]), (14, 0), "length")
+check(refusal(FULL + thing(0, 0)), (14, 0), "length 1,168")
+for kind in range(256):
+    check(refusal(bytes([kind]) + SMALL[1:]), (0, 0) if kind == 3 else (15, 0),
+          "first kind")
+    if kind in (0, 3) or kind > 3:
+        check(refusal(SMALL + bytes([kind, 0, 0, 0, 0, 0, 0, 0])), (15, 5),
+              "later kind")
+check(refusal(SMALL + user(0)), (15, 5), "user after object")
+check(refusal(switches(0, 0, 0) + user(0) * 17), (16, 17), "17 users")
+check(refusal(switches(0, 0, 0) + user(0) * 16 + user(99)), (16, 17),
+      "16 before 17")
+check(refusal(switches(0, 0, 0) + thing(0, 0) * 129), (16, 129), "129 objects")
+check(refusal(FULL[:8 * 17] + thing(0, 0) * 128), (0, 0), "128 objects")
+check(refusal(SMALL[:16] + user(16) + user(0) + switches(0, 0, 0)), (17, 2),
+      "the earlier record first")
+ALLOWED = {
+    0: [(0, 1), (0, 1), (0, 1), (0,), (0,), (0,), (0,)],
+    1: [range(16), (0, 1, 2), (0, 1), (0,), (0,), (0,), (0,)],
+    3: [range(4), list(range(16)) + [255], (0, 1, 2, 255), (0, 1), (0,), (0,), (0,)],
+}
+for index, fields in ALLOWED.items():
+    for place, allowed in enumerate(fields):
+        for value in range(256):
+            damaged = bytearray(SMALL)
+            damaged[8 * index + 1 + place] = value
+            check(refusal(bytes(damaged)), (0, 0) if value in allowed else (17, index),
+                  "byte %d of record %d" % (place + 1, index))
+
+# --- Round trips of set-ups -----------------------------------------------
+
+rng = random.Random(0)
+for _ in range(200):
+    setup = switches(rng.randrange(2), rng.randrange(2), rng.randrange(2))
+    for _ in range(rng.randrange(17)):
+        setup += user(rng.randrange(16), rng.randrange(3), rng.randrange(2))
+    for _ in range(rng.choice((0, 5, 128))):
+        setup += thing(rng.randrange(4), rng.choice(list(range(16)) + [255]),
+                       rng.choice((0, 1, 2, 255)), rng.randrange(2))
+    number, _, facility = model.read_setup(setup)
+    check((number, model.setup_bytes(facility)), (0, setup), "round trip")
+    tight = bytearray(b"\xa5" * (len(setup) - 1))
+    check((model.write_setup(facility, tight), tight),
+          ((18, 0), bytearray(b"\xa5" * (len(setup) - 1))), "buffer too small")
+    wide = bytearray(b"\xa5" * (len(setup) + 3))
+    check((model.write_setup(facility, wide), bytes(wide)),
+          ((0, len(setup)), setup + b"\xa5" * 3), "buffer with room")
+left = after(FILES, IN, (DELETE, 0, 1, 0), (CREATE, 0, 99, 2))
+check(model.setup_bytes(left), FILES[:24] + FILES[32:] + thing(2, 1),
+      "live objects only, and the created one at the level after the move")
+
+# --- Modules, marks and counter -------------------------------------------
+
+check(answers(switches(1, 0, 0) + user(9, 0, 1) + thing(0, 255), [IN],
+              (READ_OPEN, 0, 0, 0)), OPEN_QUESTION, "unset level, trusted")
+check(answers(switches(0, 0, 0) + user(9) + thing(0, 255, 255, 1), [IN],
+              (READ_WRITE_OPEN, 0, 0, 0)), (0, 0), "all off")
+check(answers(switches(0, 1, 0) + user(9) + thing(0, 0, 255), [IN],
+              (READ_OPEN, 0, 0, 0)), OPEN_QUESTION, "unset category")
+for role in range(3):
+    for category in range(3):
+        check(answers(switches(0, 1, 0) + user(9, role) + thing(0, 0, category),
+                      [IN], (READ_OPEN, 0, 0, 0)),
+              YES if category in (0, role) else NO, "FC")
+    check(answers(switches(0, 0, 1) + user(9, role) + thing(0, 0, 0, 1), [IN],
+                  (WRITE_OPEN, 0, 0, 0)), YES if role == 1 else NO, "SIM")
+    check(answers(switches(0, 0, 1) + user(9, role) + thing(0, 0, 0, 1), [IN],
+                  (READ_OPEN, 0, 0, 0)), (0, 0), "SIM of a read")
+MIXED = switches(1, 1, 0) + user(5) + thing(0, 4, 1)
+facility = after(MIXED, IN)
+check(tuple(model.enforce(facility, (READ_OPEN, 0, 0, 0))), (12, 1, 2, 0, 2, 255),
+      "MAC's yes, FC's no")
+check((facility.processes[0].current, facility.processes[0].read_mark,
+       facility.refusals), (0, 0, 1), "no move, one refusal")
+facility.refusals = 4294967294
+model.enforce(facility, (READ_OPEN, 0, 0, 0))
+check(facility.refusals, 4294967295, "counter")
+model.enforce(facility, (READ_OPEN, 0, 0, 0))
+check(facility.refusals, 4294967295, "counter stays")
+
+
+def everything(facility):
+    return (facility.refusals, [vars(obj).copy() for obj in facility.objects],
+            [p and dict(vars(p.copy())) for p in facility.processes])
+
+
+for _ in range(1500):
+    facility = after(FILES, *READ_2)
+    call = (rng.randrange(23), rng.choice((0, 0, 0, 1, 32)), rng.randrange(5),
+            rng.randrange(5))
+    before = everything(facility)
+    asked = tuple(model.query(facility, call))
+    check(everything(facility), before, "query changes nothing")
+    check(tuple(model.enforce(facility, call)), asked, "query as enforce")
+facility = after(FILES, *(READ_2 + [(TERMINATE, 0, 0, 0), IN]))
+check((facility.processes[0].current, facility.processes[0].read_mark,
+       facility.processes[0].write_mark, facility.processes[0].automatic,
+       facility.processes[0].open_reading), (0, 0, 15, True, set()),
+      "nothing is kept after terminate")
+PAIR = [IN, (LOGIN, 1, 0, 0)]
+check(answers(FILES, PAIR, (SEND_SIGNAL, 0, 1, 0)), YES, "signal, equal")
+check(answers(FILES, PAIR + [(READ_OPEN, 1, 2, 0)], (SEND_SIGNAL, 0, 1, 0)), NO,
+      "signal, different")
+check(answers(FILES, PAIR + [(READ_OPEN, 1, 2, 0), (READ_OPEN, 0, 2, 0),
+                             (DELETE, 0, 2, 0)], (CLOSE, 1, 2, 0)), (6, 0),
+      "delete drops the object")
+
+# --- Matter ---------------------------------------------------------------
+
+def matter(setup, calls):
+    data = b"".join(bytes(call) for call in calls)
+    return run.run(setup, data)[2]
+
+
+account = matter(FILES, [IN, (READ_OPEN, 0, 1, 0), (WRITE_OPEN, 0, 2, 0),
+                         (WRITE, 0, 2, 0)])
+check(account.object_sets, [{0}, {1}, {2}, {3}], "opens carry no matter")
+account = matter(FILES, [IN, (READ_OPEN, 0, 1, 0), (READ, 0, 1, 0),
+                         (CLONE, 0, 3, 0), (TERMINATE, 0, 0, 0),
+                         (WRITE_OPEN, 3, 2, 0), (WRITE, 3, 2, 0),
+                         (CREATE, 3, 0, 2)])
+check(account.object_sets, [{0}, {1}, {1, 2}, {3}, {4}], "read, clone, write, create")
+check((account.process_holds(0, 1), account.process_holds(3, 1),
+       account.object_holds(2, 1)), (True, True, True), "holds")
+TREE = switches(0, 0, 0) + user(0) + thing(1, 0) + thing(3, 0) + thing(2, 0)
+account = matter(TREE, [IN, (9, 0, 1, 0), (CREATE, 0, 0, 1), (0, 0, 2, 0),
+                        (DELETE, 0, 1, 0), (18, 0, 0, 0), IN])
+check((account.kinds, account.object_sets, account.process_sets[0]),
+      ([1, 3, 2, 1], [{0, 1}, {1}, {1, 2}, {3}], set()),
+      "status read, create in a directory, alter, delete, login")
+
+print("model: %d checks passed" % passed)

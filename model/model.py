@@ -1,0 +1,483 @@
+"""The station's access decision facility, as an executable model.
+
+Written from the paper (01-scope.md) alone, to be held beside it; "reading N"
+names an entry of readings.md, section "Document 01".
+"""
+
+# --- Set-up records -------------------------------------------------------
+
+RECORD = 8
+KIND_USER, KIND_OBJECT, KIND_SWITCHES = 1, 2, 3
+MAX_USERS, MAX_OBJECTS = 16, 128
+MAX_SETUP = 1160
+UNSET = 255
+FILE, DIRECTORY, CHANNEL, CONTROL = 0, 1, 2, 3
+GENERAL, SECURITY, SYSTEM = 0, 1, 2          # categories, and roles by number
+OFFICER = 1                                  # role: security officer
+NO_TYPE, SECURITY_INFORMATION = 0, 1         # data types
+
+# --- State ----------------------------------------------------------------
+
+PROCESSES = 32
+TOP_LEVEL = 15
+COUNTER_STOP = 4294967295
+NO_OBJECT = 255                              # what all but an accepted create return
+
+# --- Calls ----------------------------------------------------------------
+
+(ALTER, CHANGE_OWNER, CLONE, CLOSE, CREATE, DELETE, DELETE_DATA, EXECUTE,
+ GET_PERMISSIONS, GET_STATUS, MODIFY_ACCESS, MODIFY_PERMISSIONS, READ,
+ READ_OPEN, READ_WRITE_OPEN, SEARCH, SEND_SIGNAL, SET_LEVEL, TERMINATE,
+ WRITE, WRITE_OPEN, LOGIN) = range(22)
+
+# "Classes by kind (R reads, W writes, B both, N no condition)"
+CLASSES = {
+    FILE: {5: "W", 6: "W", 7: "R", 12: "N", 13: "R", 14: "B", 19: "N",
+           20: "W", 3: "N"},
+    DIRECTORY: {4: "W", 5: "W", 12: "R", 15: "R", 19: "W"},
+    CHANNEL: {0: "W", 5: "W", 12: "N", 14: "B", 19: "N", 3: "N"},
+    CONTROL: {1: "W", 5: "W", 8: "R", 9: "R", 10: "W", 11: "W"},
+}
+
+# --- What the modules answer ----------------------------------------------
+
+NOT_CARED, GRANTED, NOT_GRANTED, UNDEFINED = 0, 1, 2, 3
+
+
+class User:
+    def __init__(self, clearance, role, trusted):
+        self.clearance = clearance
+        self.role = role
+        self.trusted = trusted
+
+
+class Object:
+    def __init__(self, kind, level, category, data_type):
+        self.kind = kind
+        self.level = level
+        self.category = category
+        self.data_type = data_type
+        self.live = True
+
+
+class Process:
+    """State: "Login: current 0, read mark 0, write mark 15, automatic on"."""
+
+    def __init__(self, owner):
+        self.owner = owner
+        self.current = 0
+        self.read_mark = 0
+        self.write_mark = TOP_LEVEL
+        self.automatic = True
+        self.open_reading = set()            # object numbers
+        self.open_writing = set()
+
+    def copy(self):
+        other = Process(self.owner)
+        other.current = self.current
+        other.read_mark = self.read_mark
+        other.write_mark = self.write_mark
+        other.automatic = self.automatic
+        other.open_reading = set(self.open_reading)
+        other.open_writing = set(self.open_writing)
+        return other
+
+
+class Outcome:
+    """What a call returns: number, three answers, combined one, object."""
+
+    def __init__(self, number, mac, fc, sim, combined, object_number):
+        self.number = number
+        self.mac = mac
+        self.fc = fc
+        self.sim = sim
+        self.combined = combined
+        self.object_number = object_number
+
+    def __iter__(self):
+        return iter((self.number, self.mac, self.fc, self.sim, self.combined,
+                     self.object_number))
+
+
+class Facility:
+    """Set-up records: "A fresh facility has no process, no refusals counted"."""
+
+    def __init__(self, mac_on=False, fc_on=False, sim_on=False):
+        self.mac_on = mac_on
+        self.fc_on = fc_on
+        self.sim_on = sim_on
+        self.users = []
+        self.objects = []                    # all entered, deleted ones included
+        self.processes = [None] * PROCESSES  # None: does not run
+        self.refusals = 0
+
+
+# --- Set-up records: reading ----------------------------------------------
+
+def read_setup(data):
+    """Gives (number, record index, facility); number 0 is acceptance."""
+    number, index = setup_questions(data)
+    if number != 0:
+        # "A refused set-up gives the fresh facility of one switches record
+        # with all off."
+        return number, index, Facility()
+    facility = None
+    for record in records(data):
+        if record[0] == KIND_SWITCHES:
+            facility = Facility(record[1] == 1, record[2] == 1, record[3] == 1)
+        elif record[0] == KIND_USER:
+            facility.users.append(User(record[1], record[2], record[3] == 1))
+        else:
+            facility.objects.append(Object(*record[1:5]))
+    return 0, 0, facility
+
+
+def records(data):
+    return [data[i:i + RECORD] for i in range(0, len(data), RECORD)]
+
+
+def setup_questions(data):
+    # "Is the length a positive multiple of 8, at most 1,160? No: 14."
+    if len(data) == 0 or len(data) % RECORD != 0 or len(data) > MAX_SETUP:
+        return 14, 0
+    users = objects = 0
+    # "15 to 17 for each record in turn": reading 9.
+    for index, record in enumerate(records(data)):
+        kind = record[0]
+        if not kind_fits(kind, index, objects):
+            return 15, index
+        if kind == KIND_USER and not users < MAX_USERS:
+            return 16, index
+        if kind == KIND_OBJECT and not objects < MAX_OBJECTS:
+            return 16, index
+        if not bytes_allowed(record):
+            return 17, index
+        users += kind == KIND_USER
+        objects += kind == KIND_OBJECT
+    return 0, 0
+
+
+def kind_fits(kind, index, objects_before):
+    """"3 first and only there, no 1 after a 2"; reading 15."""
+    if index == 0:
+        return kind == KIND_SWITCHES
+    if kind == KIND_USER:
+        return objects_before == 0
+    return kind == KIND_OBJECT
+
+
+def bytes_allowed(record):
+    if record[0] == KIND_SWITCHES:
+        used = 4
+        fields = all(record[i] in (0, 1) for i in (1, 2, 3))
+    elif record[0] == KIND_USER:
+        used = 4
+        fields = (record[1] <= TOP_LEVEL and record[2] in (0, 1, 2)
+                  and record[3] in (0, 1))
+    else:
+        used = 5
+        fields = (record[1] in (FILE, DIRECTORY, CHANNEL, CONTROL)
+                  and (record[2] <= TOP_LEVEL or record[2] == UNSET)
+                  and record[3] in (GENERAL, SECURITY, SYSTEM, UNSET)
+                  and record[4] in (NO_TYPE, SECURITY_INFORMATION))
+    # "All other bytes are 0"
+    return fields and all(byte == 0 for byte in record[used:])
+
+
+# --- Set-up records: writing out ------------------------------------------
+
+def setup_bytes(facility):
+    """"exactly switches, users, live objects in order"."""
+    out = bytearray([KIND_SWITCHES, facility.mac_on, facility.fc_on,
+                     facility.sim_on, 0, 0, 0, 0])
+    for user in facility.users:
+        out += bytes([KIND_USER, user.clearance, user.role, user.trusted,
+                      0, 0, 0, 0])
+    for obj in facility.objects:
+        if obj.live:
+            out += bytes([KIND_OBJECT, obj.kind, obj.level, obj.category,
+                          obj.data_type, 0, 0, 0])
+    return bytes(out)
+
+
+def write_setup(facility, buffer):
+    """Writing into a lent bytearray; gives (number, length)."""
+    out = setup_bytes(facility)
+    if len(buffer) < len(out):
+        return 18, 0
+    buffer[:len(out)] = out
+    return 0, len(out)
+
+
+# --- Calls: the questions in order ----------------------------------------
+
+def needs_object(request, e):
+    """"all but 2, 16, 17, 18, 21 and create with e 2 or 3"."""
+    if request == CREATE and e in (CHANNEL, CONTROL):
+        return False
+    return request not in (CLONE, SEND_SIGNAL, SET_LEVEL, TERMINATE, LOGIN)
+
+
+def class_of(facility, request, t, e):
+    """The class of a call whose object target is live and has the request;
+    None where no object target is needed."""
+    if not needs_object(request, e):
+        return None
+    return CLASSES[facility.objects[t].kind][request]
+
+
+def questions_before_modules(facility, request, p, t, e):
+    """Numbers 1 to 11, or 0 where the modules are to be asked."""
+    processes = facility.processes
+    objects = facility.objects
+    if not request <= LOGIN:
+        return 1
+    if not p < PROCESSES:
+        return 2
+    if request in (CLONE, SEND_SIGNAL) and not t < PROCESSES:
+        return 2
+    if request != LOGIN and processes[p] is None:
+        return 3
+    if request == SEND_SIGNAL and processes[t] is None:
+        return 3
+    if request == LOGIN and processes[p] is not None:
+        return 4
+    if request == CLONE and processes[t] is not None:
+        return 4
+    if request == LOGIN and not e < len(facility.users):
+        return 5
+    if request == CREATE and e not in (FILE, DIRECTORY, CHANNEL, CONTROL):
+        return 8
+    if needs_object(request, e):
+        if not (t < len(objects) and objects[t].live):
+            return 6
+        if request not in CLASSES[objects[t].kind]:
+            return 7
+        if class_of(facility, request, t, e) == "N":
+            # reading 3: open by p itself
+            reading = t in processes[p].open_reading
+            writing = t in processes[p].open_writing
+            if request == READ and not reading:
+                return 9
+            if request == WRITE and not writing:
+                return 9
+            if request == CLOSE and not (reading or writing):
+                return 9
+    if request == CREATE and not len(objects) < MAX_OBJECTS:
+        return 10
+    if request == SET_LEVEL and not e <= TOP_LEVEL:
+        return 11
+    return 0
+
+
+# --- What the modules answer ----------------------------------------------
+
+def combine(a, b):
+    """Table 4.7: undefined beats all, then not granted, then granted."""
+    for answer in (UNDEFINED, NOT_GRANTED, GRANTED):
+        if a == answer or b == answer:
+            return answer
+    return NOT_CARED
+
+
+def mac_answer(facility, request, p, t, e):
+    """MAC's answer, and the process as its effect leaves it (a copy, or None
+    where no level, mark or flag changes)."""
+    if not facility.mac_on:
+        return NOT_CARED, None
+    level = None
+    if needs_object(request, e):
+        level = facility.objects[t].level
+        # "Object with unset level: undefined, before everything else."
+        if level == UNSET:
+            return UNDEFINED, None
+    if request == LOGIN:
+        return GRANTED, None
+    process = facility.processes[p]
+    owner = facility.users[process.owner]
+    clearance = owner.clearance
+    moved = process.copy()
+
+    # Set-level, of a trusted owner too.
+    if request == SET_LEVEL:
+        if process.read_mark <= e <= process.write_mark and e <= clearance:
+            moved.current = e
+            moved.automatic = False
+            return GRANTED, moved
+        return NOT_GRANTED, None
+
+    # "Trusted owner: granted in every class and for signals; marks and
+    # current level untouched."  Reading 5: the caller's owner.
+    if owner.trusted:
+        return GRANTED, None
+
+    if request == SEND_SIGNAL:
+        if process.current == facility.processes[t].current:
+            return GRANTED, None
+        return NOT_GRANTED, None
+
+    call_class = class_of(facility, request, t, e)
+
+    # "N, login, clone, terminate, create of a channel or control data: granted."
+    if call_class in (None, "N"):
+        return GRANTED, None
+
+    if call_class == "R":
+        if level <= process.current or (
+                process.automatic and level <= process.write_mark
+                and level <= clearance):
+            moved.current = max(process.current, level)
+            moved.read_mark = max(process.read_mark, level)
+            return GRANTED, moved
+        return NOT_GRANTED, None
+
+    # W and B
+    if level == process.current or (
+            process.automatic
+            and process.read_mark <= level <= process.write_mark
+            and level <= clearance):
+        moved.current = level
+        moved.write_mark = min(process.write_mark, level)
+        if call_class == "B":                # "both marks become L"; reading 8
+            moved.read_mark = level
+            moved.write_mark = level
+        return GRANTED, moved
+    return NOT_GRANTED, None
+
+
+def fc_answer(facility, request, p, t, e):
+    if not facility.fc_on or not needs_object(request, e):   # reading 2
+        return NOT_CARED
+    category = facility.objects[t].category
+    role = facility.users[facility.processes[p].owner].role
+    if category == UNSET:
+        return UNDEFINED
+    if category == GENERAL or category == role:
+        return GRANTED
+    return NOT_GRANTED
+
+
+def sim_answer(facility, request, p, t, e):
+    if not facility.sim_on or not needs_object(request, e):
+        return NOT_CARED
+    writes = class_of(facility, request, t, e) in ("W", "B") or request == WRITE
+    if not writes or facility.objects[t].data_type != SECURITY_INFORMATION:
+        return NOT_CARED
+    if facility.users[facility.processes[p].owner].role == OFFICER:
+        return GRANTED
+    return NOT_GRANTED
+
+
+# --- Query and enforce ----------------------------------------------------
+
+def decide(facility, call):
+    """The outcome, and MAC's move for an accepted call; changes nothing."""
+    request, p, t, e = call
+    number = questions_before_modules(facility, request, p, t, e)
+    if number != 0:
+        # "numbers 1 to 11 come with four not-cared answers"
+        return Outcome(number, NOT_CARED, NOT_CARED, NOT_CARED, NOT_CARED,
+                       NO_OBJECT), None
+    mac, moved = mac_answer(facility, request, p, t, e)
+    fc = fc_answer(facility, request, p, t, e)
+    sim = sim_answer(facility, request, p, t, e)
+    combined = combine(combine(mac, fc), sim)
+    if combined == NOT_GRANTED:
+        return Outcome(12, mac, fc, sim, combined, NO_OBJECT), None
+    if combined == UNDEFINED:
+        return Outcome(13, mac, fc, sim, combined, NO_OBJECT), None
+    # "An accepted create returns the next object number, all else 255."
+    given = len(facility.objects) if request == CREATE else NO_OBJECT
+    return Outcome(0, mac, fc, sim, combined, given), moved
+
+
+def query(facility, call):
+    """"Query gives what enforce would and changes nothing."""
+    return decide(facility, call)[0]
+
+
+def enforce(facility, call):
+    """Gives the outcome and changes the facility in place."""
+    outcome, moved = decide(facility, call)
+    if outcome.number in (12, 13):
+        facility.refusals = min(facility.refusals + 1, COUNTER_STOP)
+    if outcome.number != 0:
+        return outcome
+    request, p, t, e = call
+    processes = facility.processes
+    # MAC's move, only now that the whole call is accepted
+    if moved is not None:
+        processes[p] = moved
+    # "Effects when enforced"
+    if request == LOGIN:
+        processes[p] = Process(e)
+    elif request == CLONE:
+        processes[t] = processes[p].copy()
+    elif request == TERMINATE:
+        processes[p] = None
+    elif request == CREATE:
+        # "level the process's current one after its move, category general,
+        # data type none"
+        facility.objects.append(Object(e, processes[p].current, GENERAL, NO_TYPE))
+    elif request == DELETE:
+        facility.objects[t].live = False
+        for process in processes:
+            if process is not None:
+                process.open_reading.discard(t)
+                process.open_writing.discard(t)
+    elif request == CLOSE:
+        processes[p].open_reading.discard(t)
+        processes[p].open_writing.discard(t)
+    elif request == READ_OPEN:
+        processes[p].open_reading.add(t)
+    elif request == WRITE_OPEN:
+        processes[p].open_writing.add(t)
+    elif request == READ_WRITE_OPEN:
+        processes[p].open_reading.add(t)
+        processes[p].open_writing.add(t)
+    return outcome
+
+
+# --- Matter ---------------------------------------------------------------
+
+class Account:
+    """"worked out from the set-up and the list of calls alone: of each call
+    it takes the four bytes and whether its number is 0"."""
+
+    def __init__(self, setup):
+        # kinds of the set-up's objects; a refused set-up has none
+        self.kinds = []
+        if setup_questions(setup)[0] == 0:
+            self.kinds = [r[1] for r in records(setup) if r[0] == KIND_OBJECT]
+        self.object_sets = [{number} for number in range(len(self.kinds))]
+        self.process_sets = [set() for _ in range(PROCESSES)]
+
+    def note(self, call, accepted):
+        if not accepted:
+            return
+        request, p, t, e = call
+        if request == LOGIN:
+            self.process_sets[p] = set()
+        elif request == CLONE:
+            self.process_sets[t] = set(self.process_sets[p])
+        elif request == CREATE:
+            self.object_sets.append({len(self.kinds)})
+            self.kinds.append(e)
+            if e in (FILE, DIRECTORY):
+                self.object_sets[t] |= self.process_sets[p]
+        elif needs_object(request, e):
+            kind = self.kinds[t]
+            call_class = CLASSES[kind][request]
+            if (request == READ and kind in (FILE, CHANNEL)) or (
+                    call_class == "R" and request != READ_OPEN):
+                self.process_sets[p] |= self.object_sets[t]
+            elif request == WRITE or (
+                    call_class == "W" and request not in (WRITE_OPEN, DELETE)):
+                self.object_sets[t] |= self.process_sets[p]
+        # "All else changes nothing"
+
+    def object_holds(self, number, c):
+        return c in self.object_sets[number]
+
+    def process_holds(self, p, c):
+        return c in self.process_sets[p]

@@ -1,0 +1,757 @@
+"""Test vectors: python3 model/vectors.py SEED CASES OUTDIR
+
+Writes OUTDIR/stdin and OUTDIR/stdout (formats in README.md) and prints
+the coverage counts to standard error.  With 240 cases or more the coverage is
+asserted.
+"""
+
+import collections
+import os
+import random
+import sys
+
+import model
+import run
+from model import (CHANNEL, CLASSES, CLONE, CLOSE, CONTROL, CREATE, DELETE,
+                   DIRECTORY, FILE, LOGIN, READ, READ_OPEN, READ_WRITE_OPEN,
+                   SEND_SIGNAL, SET_LEVEL, TERMINATE, UNSET, WRITE, WRITE_OPEN)
+
+FULL_COVERAGE = 240           # from so many cases on, coverage is asserted
+SIZE_LIMIT = 700 * 1000       # of expected, at 240 cases
+
+# --- Set-ups --------------------------------------------------------------
+
+
+def switches_record(mac, fc, sim):
+    return bytes([3, mac, fc, sim, 0, 0, 0, 0])
+
+
+def user_record(clearance, role, trusted):
+    return bytes([1, clearance, role, trusted, 0, 0, 0, 0])
+
+
+def object_record(kind, level, category, data_type):
+    return bytes([2, kind, level, category, data_type, 0, 0, 0])
+
+
+def random_setup(rng, switches, users=None, objects=None):
+    top = rng.choice((1, 2, 3, 3, 5, 15))
+    trusting = rng.choice((0.0, 0.1, 0.4))
+    unset = rng.choice((0.0, 0.05, 0.15))
+    secret = rng.choice((0.1, 0.2, 0.6))
+    if users is None:
+        users = rng.choice((1, 1, 2, 2, 3, 4, 5, 8, 16))
+    if objects is None:
+        objects = rng.choice((3, 6, 9, 12, 16, 20, 24, 40))
+    data = switches_record(*switches)
+    for _ in range(users):
+        clearance = rng.choice((rng.randint(0, top), top, top, rng.randint(0, 15)))
+        data += user_record(clearance, rng.choice((0, 0, 1, 1, 2)),
+                            int(rng.random() < trusting))
+    for number in range(objects):
+        # the first four are one of each kind, so that each request has a target
+        kind = number if number < 4 else rng.choice((0, 0, 0, 1, 2, 2, 3))
+        level = UNSET if rng.random() < unset else rng.randint(0, top)
+        category = UNSET if rng.random() < unset else rng.choice((0, 0, 0, 1, 2))
+        data += object_record(kind, level, category, int(rng.random() < secret))
+    return data
+
+
+def all_switches():
+    return [(mac, fc, sim) for mac in (0, 1) for fc in (0, 1) for sim in (0, 1)]
+
+
+def damaged_setups(rng):
+    """(name, set-up, number, index): one for each way a set-up is refused."""
+    cases = []
+
+    def base(users=None, objects=None):
+        users = rng.randint(2, 4) if users is None else users
+        objects = rng.randint(5, 9) if objects is None else objects
+        data = random_setup(rng, rng.choice(all_switches()), users, objects)
+        return bytearray(data), users, objects
+
+    def damage(name, record_kind, place, value, number):
+        data, users, objects = base()
+        if record_kind == "switches":
+            index = 0
+        elif record_kind == "user":
+            index = rng.randint(1, users)
+        else:
+            index = rng.randint(users + 1, users + objects)
+        data[8 * index + place] = value
+        cases.append(("%s %s byte %d" % (name, record_kind, place), bytes(data),
+                      number, index))
+
+    # the kind byte
+    damage("damaged", "switches", 0, rng.choice((0, 1, 2, 4, 255)), 15)
+    damage("damaged", "user", 0, rng.choice((0, 4, 5, 255)), 15)
+    damage("damaged", "object", 0, rng.choice((0, 4, 5, 255)), 15)
+    # every field one past its range
+    for kind, place, past in (("switches", 1, 2), ("switches", 2, 2),
+                              ("switches", 3, 2), ("user", 1, 16),
+                              ("user", 2, 3), ("user", 3, 2), ("object", 1, 4),
+                              ("object", 2, 16), ("object", 3, 3),
+                              ("object", 4, 2)):
+        damage("one past", kind, place, past, 17)
+    # unset where it is not allowed
+    for kind, place in (("switches", 1), ("switches", 2), ("switches", 3),
+                        ("user", 1), ("user", 2), ("user", 3), ("object", 1),
+                        ("object", 4)):
+        damage("unset", kind, place, 255, 17)
+    # a byte that must be 0
+    for kind, places in (("switches", (4, 5, 6, 7)), ("user", (4, 5, 6, 7)),
+                         ("object", (5, 6, 7))):
+        for place in places:
+            damage("not zero", kind, place, rng.randint(1, 255), 17)
+    # lengths
+    cases.append(("length 0", b"", 14, 0))
+    for over in range(1, 8):
+        data = bytes(base()[0])
+        cut = 8 * rng.randint(0, len(data) // 8 - 1) + over
+        cases.append(("length %d over" % over, data[:cut], 14, 0))
+    data = bytes(base(16, 128)[0])
+    cases.append(("length 1168", data + data[-8:], 14, 0))
+    # places and numbers of records
+    data = bytes(base(16, 3)[0])
+    cases.append(("17 users", data[:136] + user_record(1, 0, 0) + data[136:], 16, 17))
+    cases.append(("17 users, the last damaged", data[:136] + user_record(16, 3, 2),
+                  16, 17))
+    data, users, objects = base(rng.randint(0, 3), 129)
+    cases.append(("129 objects", bytes(data), 16, users + 129))
+    data, users, objects = base()
+    place = rng.randint(1, users + objects + 1)
+    cases.append(("kind 3 twice", bytes(data[:8 * place]) + switches_record(0, 0, 0)
+                  + bytes(data[8 * place:]), 15, place))
+    data, users, objects = base()
+    place = rng.randint(users + 2, users + objects + 1)
+    cases.append(("user after object", bytes(data[:8 * place]) + user_record(0, 0, 0)
+                  + bytes(data[8 * place:]), 15, place))
+    # the earlier record is judged whole before the later one
+    data, users, objects = base()
+    data[8 + 2], data[16] = 9, 3
+    cases.append(("17 before a later 15", bytes(data), 17, 1))
+    data, users, objects = base()
+    data[16], data[17] = 7, 99
+    cases.append(("15 before 17", bytes(data), 15, 2))
+    return cases
+
+
+# --- Calls ----------------------------------------------------------------
+
+
+class Caller:
+    """Makes a list of calls by asking the model what fits its state."""
+
+    def __init__(self, rng, setup):
+        number, _, self.facility = model.read_setup(setup)
+        assert number == 0
+        self.rng = rng
+        self.setup = setup
+        self.calls = []
+        self.ended = set()                   # numbers of terminated processes
+
+    def give(self, call):
+        self.calls.append(call)
+        outcome = model.enforce(self.facility, call)
+        if call[0] == TERMINATE and outcome.number == 0:
+            self.ended.add(call[1])
+        return outcome
+
+    def answer(self, call):
+        return model.query(self.facility, call).number
+
+    def running(self):
+        return [p for p, process in enumerate(self.facility.processes) if process]
+
+    def free(self):
+        return [p for p, process in enumerate(self.facility.processes) if not process]
+
+    def live(self, kinds=(0, 1, 2, 3)):
+        return [n for n, obj in enumerate(self.facility.objects)
+                if obj.live and obj.kind in kinds]
+
+    def one_of(self, choices, otherwise=255):
+        return self.rng.choice(choices) if choices else self.rng.randint(0, otherwise)
+
+    def unused(self):
+        """a byte that is not looked at"""
+        return 0 if self.rng.random() < 0.7 else self.rng.randint(0, 255)
+
+    def fitting(self, request):
+        """A call of this request that asks for something that is there."""
+        rng = self.rng
+        p = self.one_of(self.running(), 31)
+        t, e = self.unused(), self.unused()
+        if request == LOGIN:
+            # few process numbers, so that they are used again
+            low = [n for n in self.free() if n < 6] or self.free()
+            p = self.one_of(low if rng.random() < 0.7 else self.free(), 31)
+            e = self.one_of(range(len(self.facility.users)))
+        elif request == CLONE:
+            low = [n for n in self.free() if n < 8] or self.free()
+            t = self.one_of(low if rng.random() < 0.7 else self.free(), 31)
+        elif request == SEND_SIGNAL:
+            t = self.one_of(self.running(), 31)
+        elif request == SET_LEVEL:
+            e = rng.randint(0, rng.choice((1, 3, 15)))
+        elif request == CREATE:
+            e = rng.randint(0, 3)
+            if e < 2:
+                t = self.one_of(self.live([DIRECTORY]))
+        elif request != TERMINATE:
+            kinds = [kind for kind in CLASSES if request in CLASSES[kind]]
+            targets = self.live(kinds)
+            process = self.facility.processes[p]
+            if process:
+                opened = {READ: process.open_reading, WRITE: process.open_writing,
+                          CLOSE: process.open_reading | process.open_writing}
+                held = sorted(opened.get(request, ()))
+                if held and rng.random() < 0.8:
+                    targets = held
+            if request == DELETE and rng.random() < 0.5:
+                shared = [n for n in targets if open_at(self.facility, n) > 1]
+                targets = shared or targets
+            t = self.one_of(targets)
+        return (request, p, t, e)
+
+    def arbitrary(self):
+        rng = self.rng
+        if rng.random() < 0.3:
+            return tuple(rng.randint(0, 255) for _ in range(4))
+        return (rng.choice((rng.randint(0, 21), rng.randint(0, 24))),
+                rng.choice((rng.randint(0, 3), rng.randint(0, 33))),
+                rng.randint(0, len(self.facility.objects) + 2) & 255,
+                rng.choice((rng.randint(0, 4), rng.randint(0, 17))))
+
+    def aimed(self, number):
+        """A call refused with this number, where one is found."""
+        rng = self.rng
+        call = self.arbitrary()
+        for _ in range(25):
+            if number == 1:
+                call = (rng.choice((22, 23, 255, rng.randint(22, 255))),
+                        *self.arbitrary()[1:])
+            elif number == 2:
+                request = rng.randint(0, 21)
+                call = list(self.fitting(request))
+                place = 2 if request in (CLONE, SEND_SIGNAL) and rng.random() < 0.6 else 1
+                call[place] = rng.choice((32, 255, rng.randint(32, 255)))
+            elif number == 3:
+                call = list(self.fitting(rng.choice((SEND_SIGNAL, rng.randint(0, 20)))))
+                place = 2 if call[0] == SEND_SIGNAL and rng.random() < 0.5 else 1
+                call[place] = self.one_of(self.free(), 31)
+            elif number == 4:
+                request = rng.choice((LOGIN, CLONE))
+                call = list(self.fitting(request))
+                call[1 if request == LOGIN else 2] = self.one_of(self.running(), 31)
+                if request == CLONE and rng.random() < 0.4:
+                    call[2] = call[1]
+            elif number == 5:
+                call = list(self.fitting(LOGIN))
+                call[3] = rng.choice((len(self.facility.users), 255, rng.randint(0, 255)))
+            elif number == 6:
+                call = list(self.fitting(rng.randint(0, 20)))
+                dead = [n for n, obj in enumerate(self.facility.objects) if not obj.live]
+                call[2] = rng.choice((len(self.facility.objects), self.one_of(dead)))
+            elif number == 7:
+                call = list(self.fitting(rng.randint(0, 20)))
+                call[2] = self.one_of(self.live())
+            elif number == 8:
+                call = list(self.fitting(CREATE))
+                call[3] = rng.choice((4, 255, rng.randint(4, 255)))
+            elif number == 9:
+                request = rng.choice((READ, WRITE, CLOSE))
+                call = list(self.fitting(request))
+                call[2] = self.one_of(self.live([FILE, CHANNEL]))
+            elif number == 11:
+                call = list(self.fitting(SET_LEVEL))
+                call[3] = rng.choice((16, 255, rng.randint(16, 255)))
+            else:
+                call = self.fitting(CREATE if number == 10 else rng.randint(0, 20))
+            call = tuple(call)
+            if self.answer(call) == number:
+                break
+        if rng.random() < 0.35:
+            call = self.spoilt(call)
+        return call
+
+    def spoilt(self, call):
+        """The call with a second fault, so that the order of the questions
+        shows: another byte is out of its range or points nowhere."""
+        call = list(call)
+        place = self.rng.randint(1, 3)
+        call[place] = self.rng.choice((
+            (32, 31, 255), (32, 255, len(self.facility.objects)),
+            (4, 16, 255, len(self.facility.users)))[place - 1])
+        return tuple(call)
+
+    def sensible(self):
+        """Mostly accepted: the request is chosen first, then what fits it."""
+        rng = self.rng
+        running = len(self.running())
+        if running == 0 or (running < 3 and rng.random() < 0.3):
+            return self.fitting(LOGIN)
+        request = rng.choice((0, 1, 3, 4, 5, 6, 7, 8, 9, 10, 11, 12, 12, 13, 13, 14,
+                              15, 16, 19, 19, 20, 20, 2, 17, 18, 21))
+        # few terminates, deletes and set-levels, so that something goes on
+        if request in (TERMINATE, DELETE, SET_LEVEL) and rng.random() < 0.4:
+            request = rng.choice((READ_OPEN, WRITE_OPEN, READ, WRITE))
+        call = self.fitting(request)
+        moving = rng.random() < 0.6
+        for _ in range(12):
+            again = self.fitting(request)
+            if self.answer(call) != 0 or (moving and not self.moves(call)
+                                          and self.moves(again)):
+                call = again
+        return call
+
+    def moves(self, call):
+        """whether the call is accepted and moves a level or a mark"""
+        outcome, moved = model.decide(self.facility, call)
+        return (outcome.number == 0 and moved is not None
+                and marks(moved) != marks(self.facility.processes[call[1]]))
+
+    def step(self):
+        chance = self.rng.random()
+        if chance < 0.80:
+            call = self.sensible()
+        elif chance < 0.94:
+            call = self.aimed(self.rng.randint(1, 13))
+        else:
+            call = self.arbitrary()
+        outcome = self.give(call)
+        # an open in one mode is none in the other
+        across = {READ_OPEN: WRITE, WRITE_OPEN: READ}
+        if outcome.number == 0 and call[0] in across and self.rng.random() < 0.1:
+            self.give((across[call[0]], call[1], call[2], self.unused()))
+
+    def shared_delete(self):
+        """Open one object at several processes, then delete it."""
+        rng = self.rng
+        for _ in range(2):
+            self.give(self.fitting(LOGIN))
+        targets = self.live([FILE, CHANNEL])
+        if not targets:
+            return
+        t = rng.choice(targets)
+        for p in self.running()[:4]:
+            for request in rng.sample((READ_OPEN, READ_WRITE_OPEN, WRITE_OPEN), 3):
+                if self.answer((request, p, t, 0)) == 0:
+                    self.give((request, p, t, 0))
+                    break
+        for p in self.running():
+            if self.answer((DELETE, p, t, 0)) == 0:
+                self.give((DELETE, p, t, 0))
+                break
+        for p in self.running()[:3]:
+            self.give((rng.choice((READ, WRITE, CLOSE)), p, t, 0))
+
+    def fixed_level(self):
+        """Set-level, then what only the automatic could have granted."""
+        if self.free():
+            self.give(self.fitting(LOGIN))
+        p = self.one_of(self.running(), 31)
+        tried = []
+        for request in (WRITE_OPEN, READ_OPEN, READ_WRITE_OPEN):
+            calls = [(request, p, t, self.unused()) for t in self.live([FILE])]
+            tried += [call for call in calls if self.moves(call)][:2]
+        self.give((SET_LEVEL, p, self.unused(), self.rng.randint(0, 2)))
+        for call in tried:
+            self.give(call)
+
+    def signals(self):
+        """Signals between two processes, before and after one of them moves."""
+        for _ in range(2):
+            if self.free():
+                self.give(self.fitting(LOGIN))
+        running = self.running()
+        if len(running) < 2:
+            return
+        p, q = self.rng.sample(running, 2)
+        users, processes = self.facility.users, self.facility.processes
+        trusted = [n for n in running if n != p and users[processes[n].owner].trusted]
+        if self.rng.random() < 0.5:
+            q = self.one_of(trusted or [q])
+        self.give((SEND_SIGNAL, p, q, self.unused()))
+        e = self.rng.randint(1, 3)
+        calls = [(READ_OPEN, p, t, 0) for t in self.live([FILE])]
+        calls = [call for call in calls if self.moves(call)] + [(SET_LEVEL, p, 0, e)]
+        self.give(self.rng.choice(calls))
+        self.give((SEND_SIGNAL, p, q, self.unused()))
+        self.give((SEND_SIGNAL, q, p, self.unused()))
+
+    def close_and_try(self):
+        """Close drops both modes."""
+        call = self.fitting(READ_WRITE_OPEN)
+        for _ in range(10):
+            if self.answer(call) == 0:
+                break
+            call = self.fitting(READ_WRITE_OPEN)
+        p, t = call[1], call[2]
+        self.give(call)
+        self.give((CLOSE, p, t, self.unused()))
+        for request in self.rng.sample((READ, WRITE, CLOSE), 2):
+            self.give((request, p, t, self.unused()))
+
+    def clone_and_try(self):
+        """A clone has its parent's marks and opens."""
+        p = self.one_of(self.running(), 31)
+        used = [n for n in self.free() if n in self.ended]
+        t = self.one_of(used or self.free(), 31)
+        self.give((CLONE, p, t, self.unused()))
+        for request in (READ, WRITE, WRITE_OPEN, READ_OPEN, CLOSE):
+            self.give((request, t, self.fitting(request)[2], self.unused()))
+
+    def again(self):
+        """Terminate, try, login on the same number, try."""
+        p = self.one_of(self.running(), 31)
+        self.give((TERMINATE, p, self.unused(), self.unused()))
+        self.give((READ, p, self.one_of(self.live([FILE])), 0))
+        self.give((LOGIN, p, self.unused(), self.one_of(range(len(self.facility.users)))))
+        self.give((READ, p, self.one_of(self.live([FILE])), 0))
+
+    def creates(self, count):
+        for _ in range(count):
+            call = self.fitting(CREATE)
+            if self.running() and self.answer(call) not in (0, 10):
+                call = (CREATE, call[1], self.unused(), self.rng.choice((CHANNEL, CONTROL)))
+            if self.answer(call) == 10 and self.rng.random() < 0.4:
+                call = (CREATE, call[1], self.rng.randint(0, 130), self.rng.randint(0, 4))
+            self.give(call)
+
+    def go(self, count):
+        while len(self.calls) < count:
+            if self.rng.random() < 0.04:
+                self.rng.choice((self.shared_delete, self.fixed_level, self.signals,
+                                 self.close_and_try, self.clone_and_try,
+                                 self.again))()
+            else:
+                self.step()
+
+    def bytes(self):
+        return b"".join(bytes(call) for call in self.calls)
+
+
+def marks(process):
+    return process.current, process.read_mark, process.write_mark
+
+
+def open_at(facility, number):
+    """at how many processes an object is open"""
+    return sum(1 for process in facility.processes if process
+               and number in process.open_reading | process.open_writing)
+
+
+# --- Cases ----------------------------------------------------------------
+
+
+def refused_case(rng, setup, number, index):
+    assert model.read_setup(setup)[:2] == (number, index)
+    calls = bytes(rng.randint(0, 30) for _ in range(rng.randint(0, 9)))
+    return setup, calls
+
+
+def ordinary_case(rng, serial):
+    switches = all_switches()[serial % 8]
+    if serial % 16 >= 8:
+        switches = (1,) + switches[1:]       # MAC on more often than not
+    caller = Caller(rng, random_setup(rng, switches))
+    return finish(rng, caller, serial, rng.randint(70, 180))
+
+
+def full_case(rng, serial):
+    """Creates to the 128th and the refused 129th."""
+    users = 16 if serial % 4 == 0 else rng.randint(1, 3)
+    objects = 128 if serial % 8 == 0 else rng.choice((120, 124, 126, 127, 128))
+    setup = random_setup(rng, all_switches()[serial % 8], users, objects)
+    caller = Caller(rng, setup)
+    caller.give(caller.fitting(LOGIN))
+    caller.give(caller.fitting(LOGIN))
+    caller.go(30)
+    caller.creates(14)
+    return finish(rng, caller, serial, 90)
+
+
+def growing_case(rng, serial):
+    """From a small set-up, or one without objects, up by creates."""
+    setup = random_setup(rng, all_switches()[serial % 8], rng.randint(1, 2),
+                         rng.choice((0, 0, 1, 4)))
+    caller = Caller(rng, setup)
+    caller.give(caller.fitting(LOGIN))
+    caller.creates(132 if serial % 2 == 0 else 20)
+    return finish(rng, caller, serial, 180 if serial % 2 == 0 else 90)
+
+
+def bare_case(rng, serial):
+    """No users: no login is accepted."""
+    setup = random_setup(rng, all_switches()[serial % 8], 0, rng.choice((0, 4)))
+    caller = Caller(rng, setup)
+    for _ in range(10):
+        caller.step()
+    return finish(rng, caller, serial, 0)
+
+
+def answers_case(rng, serial):
+    """Objects of every level, category and data type, so that the modules'
+    answers meet in every way."""
+    setup = switches_record(*all_switches()[-1 if serial < 4 else serial % 8])
+    for role in (0, 1, 2):
+        setup += user_record(1, role, 0) + user_record(1, role, 1)
+    objects = [(kind, level, category, data_type) for kind in range(4)
+               for level in (0, 1, 3, UNSET) for category in (0, 1, 2, UNSET)
+               for data_type in (0, 1)]
+    rng.shuffle(objects)
+    setup += b"".join(object_record(*fields) for fields in objects)
+    caller = Caller(rng, setup)
+    for number in range(6):
+        caller.give((LOGIN, number, 0, number))
+    seen = set()
+    while len(caller.calls) < 110:
+        call = caller.fitting(rng.choice([n for n in range(22) if n not in
+                                          (CLONE, SEND_SIGNAL, TERMINATE, LOGIN)]))
+        # keep what has not been answered so before
+        outcome = tuple(model.query(caller.facility, call))
+        if outcome[:4] not in seen or rng.random() < 0.05:
+            seen.add(outcome[:4])
+            caller.give(call)
+        elif rng.random() < 0.01:
+            seen.clear()
+    return finish(rng, caller, serial, 0)
+
+
+def finish(rng, caller, serial, count):
+    caller.go(count)
+    left_over = serial % 8 if serial % 8 < 4 else 0
+    return caller.setup, caller.bytes() + bytes(
+        rng.randint(0, 255) for _ in range(left_over))
+
+
+def make_cases(rng, count):
+    damaged = damaged_setups(rng)
+    plan = [("refused", case) for case in damaged]
+    plan += [("full", n) for n in range(12)]
+    plan += [("growing", n) for n in range(8)]
+    plan += [("bare", n) for n in range(4)]
+    plan += [("answers", n) for n in range(12)]
+    plan += [("worked example", 0)]
+    plan = plan[:count]
+    plan += [("ordinary", n) for n in range(count - len(plan))]
+    rng.shuffle(plan)
+    makers = {"full": full_case, "growing": growing_case, "bare": bare_case,
+              "answers": answers_case, "ordinary": ordinary_case}
+    cases = []
+    for sort, detail in plan:
+        if sort == "refused":
+            name, setup, number, index = detail
+            cases.append((name,) + refused_case(rng, setup, number, index))
+        elif sort == "worked example":
+            setup = (switches_record(1, 0, 0) + user_record(2, 0, 0)
+                     + b"".join(object_record(0, level, 0, 0) for level in (1, 2, 0)))
+            calls = bytes([21, 0, 0, 0, 13, 0, 1, 0, 20, 0, 0, 0, 12, 0, 1, 0,
+                           19, 0, 0, 0])
+            cases.append((sort, setup, calls))
+        else:
+            cases.append((sort,) + makers[sort](rng, detail))
+    return cases
+
+
+# --- The two files --------------------------------------------------------
+
+
+def trial_bytes(setup, calls):
+    return (len(setup).to_bytes(2, "little") + setup
+            + len(calls).to_bytes(4, "little") + calls)
+
+
+def expected_lines(number, setup, calls, with_matter):
+    lines, facility, account = run.run(setup, calls)
+    lines = ["case %d" % number] + lines
+    if facility is None:
+        return lines
+    entered = len(facility.objects)
+    out = model.setup_bytes(facility)
+    weighed = sum((i + 1) * byte for i, byte in enumerate(out)) % 4294967296
+    lines.append("state %d %d %d %d" % (facility.refusals, entered, len(out), weighed))
+    holds = sum(1 for x in range(entered) for c in range(entered)
+                if account.object_holds(x, c))
+    if with_matter:
+        lines.append("matter %d" % holds)
+    return lines
+
+
+# --- Coverage -------------------------------------------------------------
+
+
+def coverage(cases):
+    """Counts taken from the finished cases by a run of their own."""
+    count = collections.Counter()
+    for name, setup, calls in cases:
+        count["set-ups"] += 1
+        number, _, facility = model.read_setup(setup)
+        if number != 0:
+            count["set-ups refused with %d" % number] += 1
+            count["refused: " + name] += 1
+            if len(calls) % 4:
+                count["refused set-up with left-over bytes"] += 1
+            continue
+        count["set-ups accepted"] += 1
+        count["switches %d%d%d" % (facility.mac_on, facility.fc_on, facility.sim_on)] += 1
+        if len(setup) == model.MAX_SETUP:
+            count["longest set-up"] += 1
+        if len(calls) % 4:
+            count["left-over bytes %d" % (len(calls) % 4)] += 1
+        ended = set()
+        account = model.Account(setup)
+        for i in range(0, len(calls) - 3, 4):
+            cover_call(count, facility, account, tuple(calls[i:i + 4]), ended)
+    return count
+
+
+def cover_call(count, facility, account, call, ended):
+    request, p, t, e = call
+    process = facility.processes[p] if p < 32 else None
+    owner = facility.users[process.owner] if process else None
+    opened = open_at(facility, t)
+    other = facility.processes[t] if t < 32 else None
+    before = marks(process) if process else None
+    held = sum(len(s) for s in account.object_sets)
+    entered = len(facility.objects)
+    with_automatic = None
+    if process and not process.automatic:
+        process.automatic = True
+        with_automatic = model.query(facility, call).number
+        process.automatic = False
+    _, mac_move = (model.mac_answer(facility, *call)
+                   if model.query(facility, call).number in (0, 12, 13) else (0, None))
+    outcome = model.enforce(facility, call)
+    number = outcome.number
+    account.note(call, number == 0)
+    count["calls"] += 1
+    count["number %d" % number] += 1
+    if number in (0, 12, 13):
+        count["answers %d%d%d" % (outcome.mac, outcome.fc, outcome.sim)] += 1
+    # where accepted: request, class by kind, owner
+    if number == 0:
+        count["request %d accepted" % request] += 1
+        if model.needs_object(request, e):
+            count["kind %d request %d accepted" % (facility.objects[t].kind, request)] += 1
+        if owner:
+            count["role %d accepted" % owner.role] += 1
+            count["trusted owner accepted"] += owner.trusted
+        if before and facility.processes[p] and before != marks(facility.processes[p]):
+            count["level or mark moved"] += 1
+        if sum(len(s) for s in account.object_sets) > held + (request == CREATE):
+            count["matter moved into an object"] += 1
+    if owner and number in (12, 13):
+        count["role %d refused" % owner.role] += 1
+        count["trusted owner refused"] += owner.trusted
+    if model.needs_object(request, e) and number == 13:
+        count["unset level met"] += outcome.mac == 3
+        count["unset category met"] += outcome.fc == 3
+        count["unset level met by a trusted owner"] += outcome.mac == 3 and owner.trusted
+    if number == 12 and outcome.mac == 1:
+        count["MAC's yes, another's no"] += 1
+        if mac_move and before != marks(mac_move):
+            count["MAC's yes with a move, another's no"] += 1
+    if number == 12 and with_automatic == 0:
+        count["refused only since automatic is off"] += 1
+    if request == LOGIN and number == 0:
+        count["login again after terminate"] += p in ended
+        count["trusted login"] += facility.users[e].trusted
+    if request == TERMINATE and number == 0:
+        ended.add(p)
+    if request == CREATE and number == 0:
+        count["128th object"] += entered == 127
+    if request == CREATE and number == 10:
+        count["129th object refused"] += 1
+    if request == DELETE and number == 0:
+        count["delete of an object open at several"] += opened > 1
+    if request == CLONE and number == 4 and p == t:
+        count["clone onto itself"] += 1
+    if request == SEND_SIGNAL and number in (0, 12) and facility.mac_on:
+        sort = "trusted" if owner.trusted else "untrusted"
+        equal = "equal" if process.current == other.current else "different"
+        count["signal, %s, %s levels" % (sort, equal)] += 1
+
+
+def assert_coverage(count):
+    def least(key, number):
+        assert count[key] >= number, "coverage: %s is %d, below %d" % (
+            key, count[key], number)
+
+    least("set-ups", 200)
+    least("calls", 20000)
+    for request in range(22):
+        least("request %d accepted" % request, 50)
+    for number in range(14):
+        least("number %d" % number, 20)
+    for kind, requests in CLASSES.items():
+        for request in requests:
+            least("kind %d request %d accepted" % (kind, request), 10)
+    for number in (14, 15, 16, 17):
+        least("set-ups refused with %d" % number, 1)
+    for name, _, _, _ in damaged_setups(random.Random(0)):
+        least("refused: " + name, 1)
+    for record_kind in ("switches", "user", "object"):
+        for place in range(8):
+            assert any(key.startswith("refused: ")
+                       and key.endswith("%s byte %d" % (record_kind, place))
+                       for key in count), (record_kind, place)
+    for mac, fc, sim in all_switches():
+        least("switches %d%d%d" % (mac, fc, sim), 5)
+    for role in range(3):
+        least("role %d accepted" % role, 100)
+        least("role %d refused" % role, 20)
+    for left in (1, 2, 3):
+        least("left-over bytes %d" % left, 5)
+    for key in ("trusted owner accepted", "trusted owner refused", "trusted login",
+                "unset level met", "unset level met by a trusted owner",
+                "unset category met", "login again after terminate",
+                "129th object refused", "delete of an object open at several",
+                "clone onto itself", "refused only since automatic is off",
+                "MAC's yes with a move, another's no", "level or mark moved",
+                "matter moved into an object", "signal, untrusted, equal levels",
+                "signal, untrusted, different levels",
+                "signal, trusted, different levels"):
+        least(key, 10)
+    least("128th object", 5)
+    least("longest set-up", 1)
+    least("refused set-up with left-over bytes", 5)
+    # every row of answers the three modules can give together
+    for mac in range(4):
+        for fc in range(4):
+            for sim in range(3):
+                least("answers %d%d%d" % (mac, fc, sim), 1)
+
+
+def main():
+    seed, number, folder = int(sys.argv[1]), int(sys.argv[2]), sys.argv[3]
+    cases = make_cases(random.Random(seed), number)
+    trials = b"".join(trial_bytes(setup, calls) for _, setup, calls in cases)
+    lines = []
+    for i, (_, setup, calls) in enumerate(cases):
+        lines += expected_lines(i + 1, setup, calls, "matter" in sys.argv[4:])
+    expected = "".join(line + "\n" for line in lines).encode("ascii")
+    os.makedirs(folder, exist_ok=True)
+    with open(os.path.join(folder, "stdin"), "wb") as file:
+        file.write(trials)
+    with open(os.path.join(folder, "stdout"), "wb") as file:
+        file.write(expected)
+    count = coverage(cases)
+    for key in sorted(count, key=natural):
+        print("%s: %d" % (key, count[key]), file=sys.stderr)
+    print("stdin: %d bytes, stdout: %d bytes" % (len(trials), len(expected)),
+          file=sys.stderr)
+    if number >= FULL_COVERAGE:
+        assert_coverage(count)
+        assert len(expected) * FULL_COVERAGE < SIZE_LIMIT * number, len(expected)
+        print("coverage: complete", file=sys.stderr)
+
+
+def natural(key):
+    return [word.rjust(4, "0") if word.isdigit() else word for word in key.split()]
+
+
+if __name__ == "__main__":
+    main()
