@@ -1,11 +1,6 @@
-"""setups.py OUTDIR: the set-ups of the trial program `setup_trials`, and what it must print.
+"""Set-ups that are damaged in each byte, of every length around the limits, and with records in every place."""
 
-Writes OUTDIR/stdin (each set-up behind its length in two bytes, low byte first) and OUTDIR/stdout, by the model alone.
-"""
-import sys
-
-import model
-from vectors import object_record, switches_record, user_record
+from records import object_record, switches_record, user_record
 
 BASE = [switches_record(1, 1, 1), user_record(15, 2, 1), user_record(0, 0, 0),
         object_record(0, 15, 2, 1), object_record(3, 255, 255, 0)]
@@ -49,26 +44,5 @@ def places():
     yield BASE[0] + BASE[1] + BASE[3] + user_record(16, 0, 0)
 
 
-def lines(setups):
-    for k, setup in enumerate(setups, 1):
-        number, index, facility = model.read_setup(setup)
-        if number:
-            yield f"{k} {number} {index}"
-            continue
-        written = model.setup_bytes(facility)
-        same = "same" if written == setup else "untouched"
-        yield f"{k} 0 0 {len(written)} {same}"
-        yield "18 0 untouched"
-
-
-def main():
-    setups = [*damaged(), *lengths(), *places()]
-    with open(f"{sys.argv[1]}/stdin", "wb") as out:
-        for setup in setups:
-            out.write(len(setup).to_bytes(2, "little") + setup)
-    with open(f"{sys.argv[1]}/stdout", "w") as out:
-        for line in lines(setups):
-            out.write(line + "\n")
-
-
-main()
+def all_setups():
+    return [*damaged(), *lengths(), *places()]

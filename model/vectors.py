@@ -12,26 +12,16 @@ import sys
 
 import model
 import run
+import setups
 from model import (CHANNEL, CLASSES, CLONE, CLOSE, CONTROL, CREATE, DELETE,
                    DIRECTORY, FILE, LOGIN, READ, READ_OPEN, READ_WRITE_OPEN,
                    SEND_SIGNAL, SET_LEVEL, TERMINATE, UNSET, WRITE, WRITE_OPEN)
+from records import object_record, switches_record, user_record
 
 FULL_COVERAGE = 240           # from so many cases on, coverage is asserted
 SIZE_LIMIT = 700 * 1000       # of expected, at 240 cases
 
 # --- Set-ups --------------------------------------------------------------
-
-
-def switches_record(mac, fc, sim):
-    return bytes([3, mac, fc, sim, 0, 0, 0, 0])
-
-
-def user_record(clearance, role, trusted):
-    return bytes([1, clearance, role, trusted, 0, 0, 0, 0])
-
-
-def object_record(kind, level, category, data_type):
-    return bytes([2, kind, level, category, data_type, 0, 0, 0])
 
 
 def random_setup(rng, switches, users=None, objects=None):
@@ -564,19 +554,21 @@ def trial_bytes(setup, calls):
             + len(calls).to_bytes(4, "little") + calls)
 
 
-def expected_lines(number, setup, calls, with_matter):
+def expected_lines(number, setup, calls):
     lines, facility, account = run.run(setup, calls)
-    lines = ["case %d" % number] + lines
     if facility is None:
-        return lines
+        return ["case %d" % number] + lines
+    fresh = model.read_setup(setup)[2]
+    same = "same" if model.setup_bytes(fresh) == setup else "untouched"
+    lines = ["case %d" % number, "0 %d %s" % (len(model.setup_bytes(fresh)), same),
+             "18 0 untouched"] + lines
     entered = len(facility.objects)
     out = model.setup_bytes(facility)
     weighed = sum((i + 1) * byte for i, byte in enumerate(out)) % 4294967296
-    lines.append("state %d %d %d %d" % (facility.refusals, entered, len(out), weighed))
+    lines.append("state %d %d %d %d %d" % (len(calls) // 4, facility.refusals, entered, len(out), weighed))
     holds = sum(1 for x in range(entered) for c in range(entered)
                 if account.object_holds(x, c))
-    if with_matter:
-        lines.append("matter %d" % holds)
+    lines.append("matter %d" % holds)
     return lines
 
 
@@ -728,17 +720,18 @@ def assert_coverage(count):
 def main():
     seed, number, folder = int(sys.argv[1]), int(sys.argv[2]), sys.argv[3]
     cases = make_cases(random.Random(seed), number)
+    count = coverage(cases)
+    cases += [("set-up alone", setup, b"") for setup in setups.all_setups()]
     trials = b"".join(trial_bytes(setup, calls) for _, setup, calls in cases)
     lines = []
     for i, (_, setup, calls) in enumerate(cases):
-        lines += expected_lines(i + 1, setup, calls, "matter" in sys.argv[4:])
+        lines += expected_lines(i + 1, setup, calls)
     expected = "".join(line + "\n" for line in lines).encode("ascii")
     os.makedirs(folder, exist_ok=True)
     with open(os.path.join(folder, "stdin"), "wb") as file:
         file.write(trials)
     with open(os.path.join(folder, "stdout"), "wb") as file:
         file.write(expected)
-    count = coverage(cases)
     for key in sorted(count, key=natural):
         print("%s: %d" % (key, count[key]), file=sys.stderr)
     print("stdin: %d bytes, stdout: %d bytes" % (len(trials), len(expected)),

@@ -4,7 +4,7 @@ use mathlib.Core.Path.{_≡_, refl, sym, _∙_, ap}
 use mathlib.Core.Bool.{Bool, true}
 use mathlib.Core.List.{List, [], _∷_}
 use lib.Dec.{ltb, eqb}
-use lib.ListN.{length, drop, length-drop}
+use lib.ListN.{length, drop, length-drop, List·getD-eq-default}
 use lib.Seq.{drop-cons}
 use native.Mathlib.Omega.{arith}
 use Rattle.state.specs.declared.Call.{Call}
@@ -28,6 +28,14 @@ use Rattle.calls.specs.Parts.{enforced-accepted}
 abbrev pub callFrom : List ℕ → ℕ → Call
 callFrom l i = record { request = at l i; process = at l (i + 1); target = at l (i + 2); extra = at l (i + 3) }
 
+-- past the end every byte of it is 0
+pub call-past : (l : List ℕ) (i : ℕ) → length l ≤ i → record { request = 0; process = 0; target = 0; extra = 0 } ≡ callFrom l i
+call-past l i h =
+    sym (λ k. record { request = past i (omega arith) k; process = past (i + 1) (omega arith) k; target = past (i + 2) (omega arith) k; extra = past (i + 3) (omega arith) k })
+  where
+    past : (j : ℕ) → length l ≤ j → at l j ≡ 0
+    past j b = List·getD-eq-default l 0 {n = j} b
+
 split-four : (l : List ℕ) (i : ℕ) → i + 4 ≤ length l → drop i l ≡ at l i ∷ at l (i + 1) ∷ at l (i + 2) ∷ at l (i + 3) ∷ drop (i + 4) l
 split-four l i h =
     drop-cons l i 0 (omega arith)
@@ -43,7 +51,7 @@ split-four l i h =
     next : (j : ℕ) → drop (suc i) l ≡ at l (i + 1) ∷ drop (suc (i + 1)) l
     next j = step i (i + 1) (omega arith) (omega arith)
 
-calls-more : (l : List ℕ) (i : ℕ) → i + 4 ≤ length l → callsOf (drop i l) ≡ callFrom l i ∷ callsOf (drop (i + 4) l)
+pub calls-more : (l : List ℕ) (i : ℕ) → i + 4 ≤ length l → callsOf (drop i l) ≡ callFrom l i ∷ callsOf (drop (i + 4) l)
 unfolding callsOf
 calls-more l i h = ap callsOf (split-four l i h)
 
@@ -60,7 +68,7 @@ pub run-more : (f : Facility) (l : List ℕ) (i : ℕ) → i + 4 ≤ length l �
 unfolding run
 run-more f l i h = ap (run f) (calls-more l i h)
 
-no-calls : (l : List ℕ) (i : ℕ) → length l < i + 4 → callsOf (drop i l) ≡ []
+pub no-calls : (l : List ℕ) (i : ℕ) → length l < i + 4 → callsOf (drop i l) ≡ []
 no-calls l i h =
     let b : length (drop i l) < 4 = simp length-drop (omega arith) in
     few-calls (drop i l) b

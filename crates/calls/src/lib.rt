@@ -314,11 +314,18 @@ pub fn enforce(f: Facility, c: Call) -> Enforced
     Enforced { facility, outcome }
 }
 
-// The call that begins at byte i.
-fn call_at(calls: &[u8], i: usize) -> Call
-    requires { ⌜ i + 4 ≤ length (now calls) ⌝ }
+// The call that begins at byte i; a byte past the end is 0.
+pub fn call_at(calls: &[u8], i: usize) -> Call
     ensures { λ r. ⌜ r ≡ callFrom (now (calls .entry)) i ⌝ }
 {
+    if calls.len() <= i {
+        return Call {
+            request: 0,
+            process: 0,
+            target: 0,
+            extra: 0,
+        };
+    }
     Call {
         request: state::at(calls, i),
         process: state::at(calls, i + 1),

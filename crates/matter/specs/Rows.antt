@@ -5,12 +5,12 @@ use mathlib.Core.Logic.{_≢_}
 use mathlib.Core.Bool.{false}
 use mathlib.Core.List.{List}
 use lib.Dec.{ltb, eqb}
-use lib.ListN.{length, set, replicate, length-set, List·getD-eq-default}
-use lib.Seq.{getD-set-same, getD-set-other, set-out, set-getD}
+use lib.ListN.{length, set, replicate, length-set}
+use lib.Seq.{getD-set-same, getD-set-other, set-out}
 use native.Mathlib.Omega.{arith}
 use native.Mathlib.Nat.{pow-suc, two-pow-succ, pow-le-pow-right, mul-div-mul-right, div-eq-of-lt}
 use lib.Pow.{pow-pos}
-use lib.Bits.{bitOr, or-shr, or-step, or-zero-r}
+use lib.Bits.{bitOr, or-shr, or-step}
 use native.Mathlib.Numerals.{add-one}
 use borrow.Author.Tests.{ltb-true, ltb-false, lt-ltb, eq-eqb, ne-eqb}
 use Rattle.state.specs.Tests.{_or_, at, by-test, by-eq}
@@ -180,24 +180,3 @@ pub selves-more : (words : List ℕ) (n : ℕ) (s : Members) → words ≡ selve
     → set (set words (2 * n) (s .low)) (2 * n + 1) (s .high) ≡ selves (n + 1)
 unfolding selves putMembers
 selves-more words n s e h = rw (add-one n, e, h)
-
--- A row that is put back as it was, and a row past the words.
-pub row-back : (words : List ℕ) (r : ℕ) → putMembers words r (membersIn words r) ≡ words
-unfolding putMembers membersIn
-row-back words r =
-    ap (λ (w : List ℕ). set w (2 * r + 1) (at words (2 * r + 1))) (set-getD words (2 * r) 0) ∙ set-getD words (2 * r + 1) 0
-
-pub row-none : (words : List ℕ) (r : ℕ) → length words ≤ 2 * r → membersIn words r ≡ noMembers
-unfolding membersIn noMembers
-row-none words r h =
-    let low : at words (2 * r) ≡ 0 = List·getD-eq-default words 0 h in
-    let b : length words ≤ 2 * r + 1 = omega arith in
-    let high : at words (2 * r + 1) ≡ 0 = List·getD-eq-default words 0 b in
-    λ i. record { low = low i; high = high i }
-
-pub merged-none : (s : Members) → mergedOf s noMembers ≡ s
-unfolding mergedOf noMembers
-merged-none s =
-    let low = or-zero-r (s .low) in
-    let high = or-zero-r (s .high) in
-    λ i. record { low = low i; high = high i }

@@ -20,7 +20,7 @@ use Rattle.rules.specs.Matter.{Set, nothing, only, union, put, Account, start, 
 use Rattle.matter.specs.declared.Members.{Members}
 use Rattle.matter.specs.declared.Ledger.{Ledger}
 use Rattle.matter.specs.Held.{isMember, noMembers, onlyMember, mergedOf, membersIn, putMembers, heldBy, accountOf, selves, startOf, withObject, withProcess, processGainsOf, objectGainsOf, assignedNothingOf, copiedOf, withKind, enteredOf, createdOf, byClass, onObjectOf, carriedOf, stepOf}
-use Rattle.matter.specs.Rows.{object-kept, process-kept, length-put, row-same, row-other, member-none, member-merged, member-only, row-back, row-none, merged-none}
+use Rattle.matter.specs.Rows.{length-put, row-same, row-other, member-none, member-merged, member-only}
 
 -- the arrays of a ledger have their lengths
 pub record Sized (l : Ledger) : Type 0 where
@@ -277,47 +277,3 @@ started f h =
 pub sized-start : (n : ℕ) (kinds : List ℕ) → length kinds ≡ mostObjects → Sized (startOf n kinds)
 unfolding startOf
 sized-start n kinds e = record { kinds = e; objects = length-selves (min n mostObjects); processes = length-replicate {A = ℕ} 64 0 }
-
--- A number that is none changes nothing.
-pub no-process-gains : (l : Ledger) (p t : ℕ) → Sized l → mostProcesses ≤ p → processGainsOf l p t ≡ l
-unfolding processGainsOf
-no-process-gains l p t z h = sym (process-kept l p _ (z .processes) h)
-
-pub no-object-gains : (l : Ledger) (p t : ℕ) → Sized l → mostObjects ≤ t → objectGainsOf l p t ≡ l
-unfolding objectGainsOf
-no-object-gains l p t z h = sym (object-kept l t _ (z .objects) h)
-
-pub nothing-gained : (l : Ledger) (p t : ℕ) → Sized l → mostObjects ≤ t → processGainsOf l p t ≡ l
-unfolding processGainsOf withProcess
-nothing-gained l p t z h =
-    let n = z .objects in
-    let b : length (l .objects) ≤ 2 * t = omega arith in
-    let e = membersIn (l .processes) p in
-    ap (λ (w : List ℕ). record { next = l .next; kinds = l .kinds; objects = l .objects; processes = w })
-    (ap (putMembers (l .processes) p) (ap (mergedOf e) (row-none (l .objects) t b) ∙ merged-none e) ∙ row-back (l .processes) p)
-
-pub nothing-given : (l : Ledger) (p t : ℕ) → Sized l → mostProcesses ≤ p → objectGainsOf l p t ≡ l
-unfolding objectGainsOf withObject
-nothing-given l p t z h =
-    let n = z .processes in
-    let b : length (l .processes) ≤ 2 * p = omega arith in
-    let e = membersIn (l .objects) t in
-    ap (λ (w : List ℕ). record { next = l .next; kinds = l .kinds; objects = w; processes = l .processes })
-    (ap (putMembers (l .objects) t) (ap (mergedOf e) (row-none (l .processes) p b) ∙ merged-none e) ∙ row-back (l .objects) t)
-
-pub no-process-assigned : (l : Ledger) (p : ℕ) → Sized l → mostProcesses ≤ p → assignedNothingOf l p ≡ l
-unfolding assignedNothingOf
-no-process-assigned l p z h = sym (process-kept l p noMembers (z .processes) h)
-
-pub copy-of-none : (l : Ledger) (p t : ℕ) → mostProcesses ≤ p → copiedOf l p t ≡ l
-unfolding copiedOf
-copy-of-none l p t h = rw (le-ltb p mostProcesses h)
-
-pub copy-to-none : (l : Ledger) (p t : ℕ) → Sized l → mostProcesses ≤ t → copiedOf l p t ≡ l
-unfolding copiedOf
-copy-to-none l p t z h =
-    by-test (ltb p mostProcesses) (λ a. rw a (sym (process-kept l t _ (z .processes) h))) (λ a. rw a)
-
-pub none-entered : (l : Ledger) (e : ℕ) → mostObjects ≤ l .next → enteredOf l e ≡ l
-unfolding enteredOf
-none-entered l e h = rw (le-ltb (l .next) mostObjects h)

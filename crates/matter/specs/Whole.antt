@@ -4,28 +4,25 @@ use mathlib.Core.Path.{_≡_, refl, sym, _∙_, ap}
 use mathlib.Core.Bool.{true, cond}
 use mathlib.Core.List.{List, [], _∷_}
 use native.Mathlib.Omega.{arith}
-use borrow.Author.Tests.{ltb-true, lt-ltb}
+use borrow.Author.Tests.{ltb-true}
 use Rattle.state.specs.declared.Call.{Call}
-use Rattle.state.specs.declared.Object.{Object}
 use Rattle.state.specs.declared.Facility.{Facility}
 use Rattle.state.specs.Tests.{at, by-test}
-use Rattle.state.specs.Outcomes.{denies}
-use Rattle.state.specs.State.{mostObjects, live, putProcess, putOpens, putObject, addObject, dropObject, putRefusals, counted}
+use Rattle.state.specs.State.{mostObjects, live}
 use Rattle.rules.specs.declared.Request.{Request}
 use Rattle.rules.specs.declared.Request.the-variants.{Login, Clone, SendSignal, SetLevel, Terminate, Create, OnObject, Unknown}
-use Rattle.rules.specs.declared.OpenChange.{OpenChange}
-use Rattle.rules.specs.declared.OpenChange.the-variants.{Keep, Add, Close, CloseAll}
-use Rattle.rules.specs.Effects.{openBy, effectFrom, effectBy}
-use Rattle.rules.specs.Calls.{accepted, afterRefusal, after}
-use Rattle.rules.specs.Requests.{requestOf, classOf, isCreate, inDirectory, openChange}
+use Rattle.rules.specs.Effects.{effectBy}
+use Rattle.rules.specs.Calls.{accepted, after}
+use Rattle.rules.specs.Requests.{requestOf, classOf, isCreate, inDirectory}
 use Rattle.rules.specs.Setup.{fresh}
 use Rattle.rules.specs.Matter.{Account, processGains, objectGains, assign, enter, takes, gives, carry, carryBy, account, history, accountAfter, holds}
-use Rattle.rules.specs.Modules.{viewOf, moved}
+use Rattle.rules.specs.Modules.{viewOf}
 use Rattle.rules.specs.Questions.{number}
 use Rattle.rules.specs.Proofs.Regular.{Regular, regular-after}
 use Rattle.rules.specs.Proofs.Fresh.{fresh-setup}
 use Rattle.rules.specs.Proofs.Sound.{Sound}
-use Rattle.rules.specs.Proofs.Passed.{Passed, passed, accepted-zero}
+use Rattle.rules.specs.Proofs.Passed.{passed, accepted-zero}
+use Rattle.rules.specs.Proofs.ObjectNumbers.{effect-entered, refused-entered}
 use Rattle.matter.specs.declared.Ledger.{Ledger}
 use Rattle.matter.specs.Held.{heldBy, accountOf, startOf, carriedOf, stepOf}
 use Rattle.matter.specs.Tied.{Sized, InRange, call-carried, sized-step, ledgerAfter, AllInRange, done, more, followed, started, sized-start}
@@ -58,37 +55,6 @@ carry-next OnObject a c =
     let k = classOf (c .request) (a .kinds (c .target)) in
     by-test (takes (c .request) k) (λ d. rw d (omega arith))
     (λ d. by-test (gives (c .request) k) (λ e. rw (d, e) (omega arith)) (λ e. rw (d, e) (omega arith)))
-
-open-entered : (o : OpenChange) (f : Facility) (p t : ℕ) → (openBy o f p t) .entered ≡ f .entered
-unfolding openBy putOpens dropObject
-open-entered Keep f p t = refl
-open-entered (Add m) f p t = refl
-open-entered Close f p t = refl
-open-entered CloseAll f p t = refl
-
-add-entered : (f : Facility) (o : Object) → f .entered < mostObjects → (addObject f o) .entered ≡ f .entered + 1
-unfolding addObject putObject
-add-entered f o h = rw (lt-ltb _ _ h)
-
-effect-entered : (k : Request) (f : Facility) (c : Call) → Passed k (viewOf f c) c → (effectBy k f c) .entered ≡ f .entered + cond (isCreate k) 1 0
-unfolding effectFrom putProcess putOpens
-effect-entered Login f c q = omega arith
-effect-entered Clone f c q = omega arith
-effect-entered SendSignal f c q = omega arith
-effect-entered Unknown f c q = omega arith
-effect-entered SetLevel f c q = omega arith
-effect-entered Terminate f c q = omega arith
-effect-entered Create f c q =
-    by-test (inDirectory (c .extra))
-    (λ e. rw e (add-entered (putProcess f (c .process) _) _ (ltb-true _ _ (q .room))))
-    (λ e. rw e (add-entered f _ (ltb-true _ _ (q .room))))
-effect-entered OnObject f c q =
-    let e = open-entered (openChange (c .request)) (putProcess f (c .process) (moved (viewOf f c) c)) (c .process) (c .target) in
-    omega arith
-
-refused-entered : (f : Facility) (n : ℕ) → (afterRefusal f n) .entered ≡ f .entered
-unfolding afterRefusal counted putRefusals
-refused-entered f n = by-test (denies n) (λ h. rw h) (λ h. rw h)
 
 account-next : (l : Ledger) → accountOf l .next ≡ l .next
 unfolding accountOf

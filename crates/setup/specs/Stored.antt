@@ -4,7 +4,7 @@ use Prim.Native.Nat.{ℕ, zero, suc, _+_, _*_, _-_, _≤_, _<_}
 use mathlib.Core.Path.{_≡_, refl, sym, _∙_, ap}
 use mathlib.Core.Bool.{cond}
 use mathlib.Core.List.{List, [], _∷_, _++_, map, append-assoc}
-use lib.ListN.{length, set, drop, length-append}
+use lib.ListN.{length, drop, length-append}
 use lib.Seq.{sets, sets-eq}
 use native.Mathlib.Omega.{arith}
 use native.Mathlib.Numerals.{add-one}
@@ -13,17 +13,11 @@ use Rattle.state.specs.declared.WriteOutcome.{WriteOutcome}
 use Rattle.state.specs.declared.Object.{Object}
 use Rattle.state.specs.declared.Facility.{Facility}
 use Rattle.state.specs.Tests.{at, on, by-test}
-use Rattle.state.specs.State.{Users, Objects, usersIn, objectsIn, objectIn, userIn, place}
+use Rattle.state.specs.State.{Users, Objects, usersIn, objectsIn, objectIn, userIn}
+use Rattle.state.specs.Loops.{sets-append}
 use Rattle.rules.specs.declared.SetupRecord.{SetupRecord}
 use Rattle.rules.specs.Setup.{bytesOf, bytesOfAll, switchesRecord, userRecord, objectRecord, firstUsers, firstLive, usersOf, liveObjects, setupRecords, setupBytes, writeSetup}
 use Rattle.rules.specs.Proofs.RoundTrips.{bytes-length, map-append, users-length, map-length, records-length}
-
--- bytes that are stored one after the other
-sets-append : (o : List ℕ) (i : ℕ) (xs ys : List ℕ) → sets (sets o i xs) (i + length xs) ys ≡ sets o i (xs ++ ys)
-sets-append o i [] ys = let e : i + 0 ≡ i = omega arith in ap (λ (k : ℕ). sets o k ys) e
-sets-append o i (x ∷ xs) ys =
-    let e : i + suc (length xs) ≡ suc i + length xs = omega arith in
-    ap (λ (k : ℕ). sets (sets (set o i x) (suc i) xs) k ys) e ∙ sets-append (set o i x) (suc i) xs ys
 
 -- the bytes of the first n users, and of the live ones of the first n objects
 abbrev pub userBytes : ℕ → Users → List ℕ

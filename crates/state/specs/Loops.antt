@@ -1,18 +1,25 @@
--- Loops that store into the opens, as folds, and that they make what the definitions say.
+-- Loops that store, as folds, and that they make what the definitions say.
 use Prim.Native.Nat.{ℕ, zero, suc, _+_, _/_, _%_, _≤_, _<_}
 use mathlib.Core.Path.{_≡_, refl, sym, _∙_, ap}
 use mathlib.Core.Logic.{_≢_}
 use mathlib.Core.Bool.{cond}
-use mathlib.Core.List.{List}
+use mathlib.Core.List.{List, [], _∷_, _++_}
 use lib.Dec.{eqb}
 use lib.ListN.{length, set, length-set, List·getD-eq-default}
-use lib.Seq.{getD-set-same, getD-set-other, ext-getD}
+use lib.Seq.{sets, getD-set-same, getD-set-other, ext-getD}
 use native.Mathlib.Omega.{arith}
 use native.Mathlib.Numerals.{add-one}
 use borrow.Author.Tests.{eq-eqb, ne-eqb}
 use Rattle.state.specs.Tests.{at, by-eq}
 use Rattle.state.specs.Views.{length-build, at-build, drop-out}
 use Rattle.state.specs.State.{Facility, mostProcesses, mostObjects, mostOpens, place, build, closeObject, closeProcess, copyProcess, putOpens, dropObject, deleted}
+
+-- bytes stored one after the other are one store
+pub sets-append : (o : List ℕ) (i : ℕ) (xs ys : List ℕ) → sets (sets o i xs) (i + length xs) ys ≡ sets o i (xs ++ ys)
+sets-append o i [] ys = let e : i + 0 ≡ i = omega arith in ap (λ (k : ℕ). sets o k ys) e
+sets-append o i (x ∷ xs) ys =
+    let e : i + suc (length xs) ≡ suc i + length xs = omega arith in
+    ap (λ (k : ℕ). sets (sets (set o i x) (suc i) xs) k ys) e ∙ sets-append (set o i x) (suc i) xs ys
 
 -- l with v k at `to k`, for each k below n
 unfoldable pub puts : List ℕ → (ℕ → ℕ) → (ℕ → ℕ) → ℕ → List ℕ

@@ -36,7 +36,7 @@ unfolding addObject putObject
 add-entered f o h = rw (lt-ltb _ _ h)
 
 -- an accepted create enters one object more, every other call none
-effect-entered : (k : Request) (f : Facility) (c : Call) → Passed k (viewOf f c) c → (effectBy k f c) .entered ≡ f .entered + cond (isCreate k) 1 0
+pub effect-entered : (k : Request) (f : Facility) (c : Call) → Passed k (viewOf f c) c → (effectBy k f c) .entered ≡ f .entered + cond (isCreate k) 1 0
 unfolding effectFrom putProcess putOpens
 effect-entered Login f c q = omega arith
 effect-entered Clone f c q = omega arith
@@ -52,7 +52,7 @@ effect-entered OnObject f c q =
     let e = open-entered (openChange (c .request)) (putProcess f (c .process) (moved (viewOf f c) c)) (c .process) (c .target) in
     omega arith
 
-refused-entered : (f : Facility) (n : ℕ) → (afterRefusal f n) .entered ≡ f .entered
+pub refused-entered : (f : Facility) (n : ℕ) → (afterRefusal f n) .entered ≡ f .entered
 unfolding afterRefusal counted putRefusals
 refused-entered f n = by-test (denies n) (λ h. rw h) (λ h. rw h)
 

@@ -1,0 +1,3 @@
+-- Text stored into a lent buffer.
+pub mod Stored
+pub mod Decimals

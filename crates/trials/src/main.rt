@@ -1,0 +1,258 @@
+// Cases from standard input: a set-up behind its length in two bytes, then calls behind theirs in four, low byte first. Of a refused set-up
+// its line. Of an accepted one: what it gives written out into a buffer of its length and into one a byte shorter; the lines of the run
+// program; of how many calls query says what enforce does, and of what replay returns the counter of refusals, the objects entered, and the
+// length and a sum of the bytes of the set-up written out; then how many pairs of objects the account has of which the first holds the matter
+// of the second.
+ghost use Prim.Native.Nat.{_≤_};
+use libc::STDIN_FILENO;
+use libc::STDOUT_FILENO;
+use matter::Ledger;
+use state::Facility;
+use state::Outcome;
+use state::SetupOutcome;
+use state::WriteOutcome;
+
+fn show(n: u64, last: u8) {
+    io::print_decimal(STDOUT_FILENO, n);
+    let end = [last];
+    io::write_all(STDOUT_FILENO, &end);
+}
+
+// The lines of the run program.
+fn show_block(f: Facility, bytes: &[u8], out: &mut [u8]) {
+    let printed = lines::put_block(f, 1, bytes, out);
+    let n = printed.length;
+    io::write_all(STDOUT_FILENO, &out[..n]);
+}
+
+fn show_refused(number: u8, index: u8) {
+    let mut out = io::buffer();
+    let n = lines::put_setup(&mut out, number, index);
+    io::write_all(STDOUT_FILENO, &out[..n]);
+}
+
+// Whether two outcomes have the same number, combined answer and object.
+fn is_same(a: Outcome, b: Outcome) -> bool {
+    let x = a.answers();
+    let y = b.answers();
+    let p = x.combined;
+    let q = y.combined;
+    (a.number() == b.number()) & (p.code() == q.code()) & (a.object() == b.object())
+}
+
+fn one_if(test: bool) -> u8
+    ensures { λ r. ⌜ r ≤ 1 ⌝ }
+{
+    if test { 1 } else { 0 }
+}
+
+// Of how many calls query says what enforce does.
+fn agreed(start: Facility, bytes: &[u8]) -> u64 {
+    let n = bytes.len();
+    let mut f = start;
+    let mut count: u64 = 0;
+    let mut i: usize = 0;
+    while 4 <= n - i {
+        let c = calls::call_at(bytes, i);
+        i += 4;
+        let foretold = calls::query(f, c);
+        let enforced = calls::enforce(f, c);
+        let outcome = enforced.outcome;
+        count += one_if(is_same(foretold, outcome)) as u64;
+        f = enforced.facility;
+    }
+    count
+}
+
+// Whether b begins with a.
+fn begins(a: &[u8], b: &[u8]) -> bool {
+    if b.len() < a.len() {
+        return false;
+    }
+    let mut i = 0;
+    while i < a.len() {
+        if a[i] != b[i] {
+            return false;
+        }
+        i += 1;
+    }
+    true
+}
+
+// Writes an accepted set-up out into the first bytes of a buffer: number and length, and whether the buffer then begins with the set-up.
+fn write_into(f: Facility, s: &[u8], out: &mut [u8], room: usize) {
+    if room <= out.len() {
+        let w = setup::write_setup(f, &mut out[..room]);
+        show_length(w);
+        if begins(s, out) {
+            io::write_all(STDOUT_FILENO, b"same\n");
+        } else {
+            io::write_all(STDOUT_FILENO, b"untouched\n");
+        }
+    }
+}
+
+fn show_length(w: WriteOutcome) {
+    match w {
+        WriteOutcome::Written { length } => {
+            show(0, b' ');
+            show(length as u64, b' ');
+        }
+        WriteOutcome::NoRoom => {
+            io::write_all(STDOUT_FILENO, b"18 0 ");
+        }
+    }
+}
+
+fn write_back(f: Facility, s: &[u8], room: usize) {
+    let mut out = io::buffer();
+    write_into(f, s, &mut out, room);
+}
+
+// The sum of (i + 1) times byte i over the first n bytes, modulo 4294967296, by sums of the bytes from each place on.
+fn weighed(bytes: &[u8], n: usize) -> u64 {
+    let mut k = n;
+    let mut tail: u64 = 0;
+    let mut sum: u64 = 0;
+    while 0 < k {
+        k -= 1;
+        tail = (tail + (state::at(bytes, k) as u64)) % 4294967296;
+        sum = (sum + tail) % 4294967296;
+    }
+    sum
+}
+
+fn show_written(f: Facility, out: &mut [u8]) {
+    let w = setup::write_setup(f, out);
+    match w {
+        WriteOutcome::Written { length } => {
+            show(length as u64, b' ');
+            show(weighed(out, length), b'\n');
+        }
+        WriteOutcome::NoRoom => {
+            io::write_all(STDOUT_FILENO, b"18\n");
+        }
+    }
+}
+
+fn show_state(f: Facility, agreed: u64) {
+    io::write_all(STDOUT_FILENO, b"state ");
+    show(agreed, b' ');
+    show(f.refusals as u64, b' ');
+    show(f.entered as u64, b' ');
+    let mut out = io::buffer();
+    show_written(f, &mut out);
+}
+
+// How many of the object numbers below n object x holds the matter of.
+fn count_row(l: Ledger, x: u8, n: u8) -> u8 {
+    let mut count: u8 = 0;
+    let mut c: u8 = 0;
+    while c < n {
+        count += one_if(l.object_holds(x, c));
+        c += 1;
+    }
+    count
+}
+
+// The pairs of object numbers below n of which the first holds the matter of the second.
+fn count_pairs(l: Ledger, n: u8) -> u32 {
+    let mut count: u32 = 0;
+    let mut x: u8 = 0;
+    while x < n {
+        count += count_row(l, x, n) as u32;
+        x += 1;
+    }
+    count
+}
+
+fn show_matter(l: Ledger) {
+    io::write_all(STDOUT_FILENO, b"matter ");
+    show(count_pairs(l, l.next) as u64, b'\n');
+}
+
+// An accepted set-up: written back, its calls run, then what replay and the account come to.
+fn accepted(f: Facility, setup: &[u8], bytes: &[u8]) {
+    write_back(f, setup, setup.len());
+    if 0 < setup.len() {
+        write_back(f, setup, setup.len() - 1);
+    }
+    let mut out = io::large_buffer();
+    show_block(f, bytes, &mut out);
+    show_state(calls::replay(setup, bytes), agreed(f, bytes));
+    show_matter(calls::account(setup, bytes));
+}
+
+fn one(setup: &[u8], bytes: &[u8]) {
+    let r = setup::read_setup(setup);
+    let f = r.facility;
+    let o = r.outcome;
+    match o {
+        SetupOutcome::Accepted => accepted(f, setup, bytes),
+        SetupOutcome::Refused { number, index } => show_refused(number, index),
+    }
+}
+
+// A number of two bytes, low byte first.
+fn two_bytes(low: u8, high: u8) -> u32 {
+    (low as u32) + (high as u32) * 256
+}
+
+// Reads n bytes to the front of a buffer that holds them, and answers how many there were.
+fn fill(bytes: &mut [u8], n: usize) -> usize {
+    if bytes.len() < n {
+        return 0;
+    }
+    io::read_full(STDIN_FILENO, &mut bytes[..n])
+}
+
+// The calls of a case whose set-up is known. No case has more than the buffer holds.
+fn with_setup(setup: &[u8], bytes: &mut [u8]) {
+    let mut b = [0u8; 4];
+    io::read_full(STDIN_FILENO, &mut b);
+    let n = two_bytes(b[0], b[1]) as usize;
+    fill(bytes, n);
+    if n <= bytes.len() {
+        one(setup, &bytes[..n]);
+    }
+}
+
+// Lends the first n bytes of a set-up's buffer.
+fn lend_setup(setup: &[u8], n: usize) {
+    let mut bytes = io::buffer();
+    if n <= setup.len() {
+        with_setup(&setup[..n], &mut bytes);
+    }
+}
+
+// A set-up of n bytes and the calls behind it; false where they are not there.
+fn next_setup(n: usize) -> bool {
+    let mut setup = io::buffer();
+    if fill(&mut setup, n) < n {
+        return false;
+    }
+    lend_setup(&setup, n);
+    true
+}
+
+// The next case; false where there is none.
+fn next(place: u64) -> bool {
+    let mut b = [0u8; 2];
+    if io::read_full(STDIN_FILENO, &mut b) < 2 {
+        return false;
+    }
+    let n = two_bytes(b[0], b[1]) as usize;
+    io::write_all(STDOUT_FILENO, b"case ");
+    show(place, b'\n');
+    next_setup(n)
+}
+
+fn main() {
+    let mut place: u64 = 1;
+    while place < 4294967295 {
+        if !next(place) {
+            return;
+        }
+        place += 1;
+    }
+}
