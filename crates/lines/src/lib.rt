@@ -70,6 +70,7 @@ pub fn put_line<'a>(
 }
 
 // A block of calls that is printed: the facility after it, and how many bytes its lines have.
+#[repr(C)]
 pub struct Printed {
     pub facility: Facility,
     pub length: usize,

@@ -60,11 +60,13 @@ pub struct Call {
 }
 
 // What levels, marks and clearances are compared by. Only the operations on labels look inside.
+#[repr(C)]
 pub struct Label {
     pub level: u8,
 }
 
 // A process: `current`, `readmark` and `writemark` move with its calls.
+#[repr(C)]
 pub struct Process {
     pub running: u8,
     pub owner: u8,
@@ -75,12 +77,14 @@ pub struct Process {
 }
 
 // A user: the clearance is fixed by the set-up.
+#[repr(C)]
 pub struct User {
     pub clearance: Label,
     pub role: u8,
     pub trusted: u8,
 }
 
+#[repr(C)]
 pub struct Object {
     pub live: u8,
     pub kind: u8,

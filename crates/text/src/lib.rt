@@ -50,3 +50,10 @@ pub fn put_byte(out: &mut [u8], place: usize, b: u8) -> usize
 {
     put_field(out, place, b as u64)
 }
+
+// A byte's number.
+pub fn put_small(out: &mut [u8], place: usize, b: u8) -> usize
+    ensures { λ r. ⌜ Stored (now (out .entry)) place (decimal b) (now (out .exit)) r ⌝ }
+{
+    put_decimal(out, place, b as u64)
+}

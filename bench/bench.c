@@ -1,0 +1,294 @@
+/* Compares the proved facility with the same rules in plain C: first that they agree on random calls, then how long each takes. All in one run. */
+#define _POSIX_C_SOURCE 200809L
+#include <stdio.h>
+#include <stdlib.h>
+#include <string.h>
+#include <time.h>
+
+#include "plain.h"
+
+enum { CALLS = 4096, ROUNDS = 7, TRIALS = 400000 };
+
+static uint64_t seed = 1;
+
+static uint32_t random_below(uint32_t n)
+{
+    seed = seed * 6364136223846793005u + 1442695040888963407u;
+    return (uint32_t)((seed >> 33) % n);
+}
+
+/* A set-up with users of all roles and objects of all kinds. */
+static size_t random_setup(uint8_t *s, int switches)
+{
+    size_t at = 8, objects = 4 + random_below(30);
+    memset(s, 0, HV_SETUP_MOST);
+    memcpy(s, (uint8_t[4]){3, switches & 1, (switches >> 1) & 1, (switches >> 2) & 1}, 4);
+    for (int u = 0; u < 4; u++, at += 8) memcpy(s + at, (uint8_t[4]){1, (uint8_t)random_below(6), (uint8_t)random_below(3), (uint8_t)(random_below(5) == 0)}, 4);
+    for (size_t t = 0; t < objects; t++, at += 8)
+        memcpy(s + at, (uint8_t[5]){2, (uint8_t)random_below(4), (uint8_t)(random_below(20) ? random_below(6) : HV_UNSET), (uint8_t)(random_below(20) ? random_below(3) : HV_UNSET), (uint8_t)(random_below(4) == 0)}, 5);
+    return at;
+}
+
+/* Numbers that are often good: few processes, few objects. */
+static void random_call(uint8_t c[4])
+{
+    c[0] = (uint8_t)(random_below(40) ? random_below(22) : random_below(256));
+    c[1] = (uint8_t)(random_below(40) ? random_below(4) : random_below(256));
+    c[2] = (uint8_t)(random_below(40) ? random_below(20) : random_below(256));
+    c[3] = (uint8_t)(random_below(40) ? random_below(4) : random_below(256));
+}
+
+static int same(const hv_facility *a, const hv_facility *b)
+{
+    return memcmp(a, b, offsetof(hv_facility, opens) + sizeof a->opens) == 0 && a->refusals == b->refusals;
+}
+
+/* Random calls on random set-ups: outcome, state, query and set-up written out are the same. */
+static int agree(void)
+{
+    static hv_facility plain, proved;
+    long accepted = 0;
+    for (long k = 0, left = 0; k < TRIALS; k++, left--) {
+        if (left == 0) {
+            uint8_t s[HV_SETUP_MOST], index, out[HV_SETUP_MOST];
+            size_t n = random_setup(s, (int)random_below(8));
+            if (random_below(10) == 0) s[random_below((uint32_t)n)] = (uint8_t)random_below(256);
+            uint8_t number = plain_read_setup(&plain, s, n, &index);
+            hv_reading r = hv_read_setup(s, n);
+            proved = r.facility;
+            if (r.number != number || r.index != index || !same(&plain, &proved)) return printf("set-ups differ\n"), 0;
+            hv_writing w = hv_write_setup(proved, out, sizeof out);
+            uint8_t again[HV_SETUP_MOST];
+            if (w.length != plain_write_setup(&plain, again, sizeof again) || memcmp(out, again, w.length) != 0) return printf("set-ups written out differ\n"), 0;
+            left = 400;
+        }
+        uint8_t c[4];
+        random_call(c);
+        hv_outcome q = hv_query(proved, c[0], c[1], c[2], c[3]);
+        hv_enforced e = hv_enforce(proved, c[0], c[1], c[2], c[3]);
+        hv_facility place = proved;
+        hv_outcome qa = hv_query_at(&place, c[0], c[1], c[2], c[3]);
+        hv_outcome ea = hv_enforce_at(&place, c[0], c[1], c[2], c[3]);
+        hv_outcome o = plain_enforce(&plain, c[0], c[1], c[2], c[3]);
+        proved = e.facility;
+        if (memcmp(&o, &qa, sizeof o) != 0 || memcmp(&o, &ea, sizeof o) != 0 || !same(&plain, &place))
+            return printf("call %d %d %d %d in place differs: %d, %d and %d\n", c[0], c[1], c[2], c[3], o.number, qa.number, ea.number), 0;
+        accepted += o.number == 0;
+        if (memcmp(&o, &e.outcome, sizeof o) != 0 || memcmp(&o, &q, sizeof o) != 0 || !same(&plain, &proved))
+            return printf("call %d %d %d %d differs: %d and %d\n", c[0], c[1], c[2], c[3], o.number, e.outcome.number), 0;
+    }
+    printf("agreement: %d random calls, %ld accepted, none differs\n", TRIALS, accepted);
+    return 1;
+}
+
+/* Calls in a list, each taken for what it comes to from a state that goes on with them. */
+typedef struct { uint8_t calls[CALLS][4]; hv_facility start; int n; } list;
+
+enum wanted { ANY, REFUSED, ACCEPTED };
+
+static void make(list *l, const hv_facility *start, enum wanted wanted)
+{
+    hv_facility f = l->start = *start;
+    l->n = 0;
+    for (long tries = 0; l->n < CALLS && tries < 4000000; tries++) {
+        uint8_t c[4];
+        random_call(c);
+        hv_outcome o = plain_query(&f, c[0], c[1], c[2], c[3]);
+        if ((wanted == REFUSED && o.number == 0) || (wanted == ACCEPTED && o.number != 0)) continue;
+        if (f.entered > 120 && c[0] == HV_CREATE && o.number == 0) continue;
+        plain_enforce(&f, c[0], c[1], c[2], c[3]);
+        memcpy(l->calls[l->n++], c, 4);
+    }
+}
+
+static double now(void)
+{
+    struct timespec t;
+    clock_gettime(CLOCK_MONOTONIC, &t);
+    return (double)t.tv_sec * 1e9 + (double)t.tv_nsec;
+}
+
+static volatile uint32_t sink;
+
+static void proved_query(const list *l)
+{
+    uint32_t sum = 0;
+    for (int k = 0; k < l->n; k++) sum += hv_query(l->start, l->calls[k][0], l->calls[k][1], l->calls[k][2], l->calls[k][3]).number;
+    sink = sum;
+}
+
+static void proved_query_at(const list *l)
+{
+    uint32_t sum = 0;
+    for (int k = 0; k < l->n; k++) sum += hv_query_at(&l->start, l->calls[k][0], l->calls[k][1], l->calls[k][2], l->calls[k][3]).number;
+    sink = sum;
+}
+
+static void proved_enforce_at(const list *l)
+{
+    hv_facility f = l->start;
+    uint32_t sum = 0;
+    for (int k = 0; k < l->n; k++) sum += hv_enforce_at(&f, l->calls[k][0], l->calls[k][1], l->calls[k][2], l->calls[k][3]).number;
+    sink = f.refusals + sum;
+}
+
+static void in_place_query(const list *l)
+{
+    uint32_t sum = 0;
+    for (int k = 0; k < l->n; k++) sum += plain_query(&l->start, l->calls[k][0], l->calls[k][1], l->calls[k][2], l->calls[k][3]).number;
+    sink = sum;
+}
+
+static void proved_enforce(const list *l)
+{
+    hv_enforced e = {.facility = l->start};
+    for (int k = 0; k < l->n; k++) e = hv_enforce(e.facility, l->calls[k][0], l->calls[k][1], l->calls[k][2], l->calls[k][3]);
+    sink = e.facility.refusals;
+}
+
+static void in_place_enforce(const list *l)
+{
+    hv_facility f = l->start;
+    uint32_t sum = 0;
+    for (int k = 0; k < l->n; k++) sum += plain_enforce(&f, l->calls[k][0], l->calls[k][1], l->calls[k][2], l->calls[k][3]).number;
+    sink = f.refusals + sum;
+}
+
+static void by_value_enforce(const list *l)
+{
+    hv_enforced e = {.facility = l->start};
+    for (int k = 0; k < l->n; k++) e = plain_enforce_by_value(e.facility, l->calls[k][0], l->calls[k][1], l->calls[k][2], l->calls[k][3]);
+    sink = e.facility.refusals;
+}
+
+/* The proved facility on the whole list in one call: enforce and a line, by value within the library. */
+static void proved_block(const list *l)
+{
+    static uint8_t out[CALLS * HV_LINE_MOST + HV_SHORT_MOST];
+    sink = (uint32_t)hv_put_block(l->start, 1, l->calls[0], (size_t)l->n * 4, out, sizeof out).length;
+}
+
+static void in_place_block(const list *l)
+{
+    static char out[CALLS * HV_LINE_MOST + HV_SHORT_MOST];
+    hv_facility f = l->start;
+    size_t at = 0;
+    for (int k = 0; k < l->n; k++) {
+        hv_outcome o = plain_enforce(&f, l->calls[k][0], l->calls[k][1], l->calls[k][2], l->calls[k][3]);
+        at += plain_line(out + at, (uint64_t)k + 1, l->calls[k], &f, o);
+    }
+    sink = (uint32_t)at;
+}
+
+static int by_size(const void *a, const void *b)
+{
+    double x = *(const double *)a, y = *(const double *)b;
+    return (x > y) - (x < y);
+}
+
+/* Nanoseconds for each call: the median of the rounds, and how far apart the rounds are. */
+static double timed(void (*work)(const list *), const list *l, double *spread)
+{
+    double t[ROUNDS];
+    int repeats = 40;
+    for (double from = now(); now() - from < 5e7;) work(l);
+    for (int r = 0; r < ROUNDS; r++) {
+        double from = now();
+        for (int k = 0; k < repeats; k++) work(l);
+        t[r] = (now() - from) / repeats / l->n;
+    }
+    qsort(t, ROUNDS, sizeof t[0], by_size);
+    *spread = (t[ROUNDS - 1] - t[0]) / t[ROUNDS / 2];
+    return t[ROUNDS / 2];
+}
+
+/* Proved where it is, plain where it is, proved by value, plain by value. */
+static void row(const char *name, const list *l, void (*at)(const list *), void (*plain)(const list *), void (*value)(const list *), void (*plain_value)(const list *))
+{
+    void (*const works[4])(const list *) = {at, plain, value, plain_value};
+    double t[4] = {0}, noise = 0;
+    for (int k = 0; k < 4; k++) {
+        double spread = 0;
+        if (works[k]) t[k] = timed(works[k], l, &spread);
+        if (spread > noise) noise = spread;
+    }
+    printf("%-30s %7.1f %7.1f %6.1f  %9.0f   %7.1f %7.1f %6.1f   %4.0f%%\n", name, t[0], t[1], t[0] / t[1], 1e9 / t[0], t[2], t[3], t[2] > 0 ? t[2] / (t[3] > 0 ? t[3] : t[1]) : 0, 100 * noise);
+}
+
+static uint8_t setup_bytes[HV_SETUP_MOST];
+static size_t setup_length;
+
+static void proved_setup(const list *l)
+{
+    for (int k = 0; k < l->n; k++) {
+        hv_reading r = hv_read_setup(setup_bytes, setup_length);
+        uint8_t out[HV_SETUP_MOST];
+        sink = (uint32_t)hv_write_setup(r.facility, out, sizeof out).length;
+    }
+}
+
+static void in_place_setup(const list *l)
+{
+    for (int k = 0; k < l->n; k++) {
+        static hv_facility f;
+        uint8_t index, out[HV_SETUP_MOST];
+        plain_read_setup(&f, setup_bytes, setup_length, &index);
+        sink = (uint32_t)plain_write_setup(&f, out, sizeof out);
+    }
+}
+
+int main(void)
+{
+    static list l;
+    static hv_facility f, start;
+    uint8_t index;
+    if (!agree()) return 1;
+    seed = 7;
+    setup_length = random_setup(setup_bytes, 7);
+    plain_read_setup(&start, setup_bytes, setup_length, &index);
+    start.mac = start.fc = start.sim = 1;
+    f = start;
+    for (int k = 0; k < 300; k++) {
+        uint8_t c[4];
+        random_call(c);
+        plain_enforce(&f, c[0], c[1], c[2], c[3]);
+    }
+    printf("\n%-30s %-34s   %-22s\n", "", "where it is", "by value");
+    printf("%-30s %7s %7s %6s  %9s   %7s %7s %6s   %5s\n", "nanoseconds for each call", "proved", "plain", "ratio", "calls/s", "proved", "plain", "ratio", "noise");
+    make(&l, &f, ANY);
+    row("query", &l, proved_query_at, in_place_query, proved_query, NULL);
+    row("enforce, any", &l, proved_enforce_at, in_place_enforce, proved_enforce, by_value_enforce);
+    make(&l, &f, REFUSED);
+    row("enforce, refused", &l, proved_enforce_at, in_place_enforce, proved_enforce, by_value_enforce);
+    make(&l, &f, ACCEPTED);
+    row("enforce, accepted", &l, proved_enforce_at, in_place_enforce, proved_enforce, by_value_enforce);
+    static const struct { uint8_t a[4], b[4]; const char *name; } each[] = {
+        {{HV_READ, 0, 1, 0}, {HV_READ, 0, 1, 0}, "  read"},
+        {{HV_READ_OPEN, 0, 1, 0}, {HV_READ_OPEN, 1, 1, 0}, "  read-open"},
+        {{HV_WRITE_OPEN, 0, 1, 0}, {HV_CLOSE, 0, 1, 0}, "  write-open and close"},
+        {{HV_SEND_SIGNAL, 0, 1, 0}, {HV_SEND_SIGNAL, 1, 0, 0}, "  send-signal"},
+        {{HV_SET_LEVEL, 0, 0, 0}, {HV_SET_LEVEL, 1, 0, 0}, "  set-level"},
+        {{HV_LOGIN, 9, 0, 0}, {HV_TERMINATE, 9, 0, 0}, "  login and terminate"},
+        {{HV_CLONE, 0, 9, 0}, {HV_TERMINATE, 9, 0, 0}, "  clone and terminate"},
+    };
+    static const uint8_t small[] = {3, 1, 1, 1, 0, 0, 0, 0, 1, 5, 0, 0, 0, 0, 0, 0, 2, HV_DIRECTORY, 0, 0, 0, 0, 0, 0, 2, HV_FILE, 0, 0, 0, 0, 0, 0};
+    plain_read_setup(&start, small, sizeof small, &index);
+    for (uint8_t p = 0; p < 2; p++) {
+        plain_enforce(&start, HV_LOGIN, p, 0, 0);
+        plain_enforce(&start, HV_READ_WRITE_OPEN, p, 1, 0);
+    }
+    for (size_t k = 0; k < sizeof each / sizeof each[0]; k++) {
+        l.start = start;
+        l.n = CALLS;
+        for (int i = 0; i < CALLS; i++) memcpy(l.calls[i], i % 2 ? each[k].b : each[k].a, 4);
+        hv_facility g = start;
+        for (int i = 0; i < CALLS; i++)
+            if (plain_enforce(&g, l.calls[i][0], l.calls[i][1], l.calls[i][2], l.calls[i][3]).number != 0) return printf("%s is refused\n", each[k].name), 1;
+        row(each[k].name, &l, proved_enforce_at, in_place_enforce, proved_enforce, by_value_enforce);
+    }
+    make(&l, &f, ANY);
+    row("enforce and line, in blocks", &l, proved_block, in_place_block, NULL, NULL);
+    l.n = 64;
+    row("set-up read and written out", &l, proved_setup, in_place_setup, NULL, NULL);
+    return 0;
+}

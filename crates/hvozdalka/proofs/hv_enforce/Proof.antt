@@ -1,0 +1,19 @@
+use Rattle.hvozdalka.proofs.hv_enforce.Statement.{statement}
+use Rattle.hvozdalka.proofs.hv_enforce.Tie as tie
+use Rattle.rules.specs.declared.Enforced.{Enforced}
+use mathlib.Core.Path.{_∙_, ap}
+use borrow.Author.Needs.{needs}
+use Rattle.hvozdalka.specs.Numbers.{outcomeNumbers}
+use Rattle.rules.specs.Calls.{enforce}
+
+enforce-requires : tie.Need-enforce-requires
+enforce-requires c κs = search needs
+
+outcome-numbers-requires : tie.Need-outcome-numbers-requires
+outcome-numbers-requires c κs = search needs
+
+returns : tie.Need-returns
+returns c = let e = c .before .before .enforce .ensures in λ i. record { facility = e i .facility; outcome = (c .outcome-numbers .ensures ∙ ap (λ (x : Enforced). outcomeNumbers (x .outcome)) e) i }
+
+pub hv-enforce-spec : {M : Type 1} → statement M
+hv-enforce-spec = tie.close (tie.spec enforce-requires outcome-numbers-requires returns)

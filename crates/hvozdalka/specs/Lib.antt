@@ -1,0 +1,2 @@
+-- What C is given.
+pub mod Numbers

@@ -1,0 +1,71 @@
+-- Outcomes as C is given them: the paper's numbers.
+use Prim.Native.Nat.{ℕ, _+_, _*_, _≤_, _<_}
+use mathlib.Core.Path.{_≡_, sym, _∙_, ap}
+use mathlib.Core.Bool.{cond}
+use lib.Dec.{ltb}
+use borrow.Author.Tests.{lt-ltb, le-ltb}
+use Rattle.state.specs.declared.Call.{Call}
+use Rattle.state.specs.declared.Facility.{Facility}
+use Rattle.state.specs.declared.Outcome.{Outcome}
+use Rattle.state.specs.declared.SetupOutcome.{SetupOutcome}
+use Rattle.state.specs.declared.WriteOutcome.{WriteOutcome}
+use Rattle.state.specs.Tests.{at}
+use Rattle.state.specs.State.{mostObjects, place}
+use Rattle.state.specs.Answers.{code}
+use Rattle.state.specs.Outcomes.{numberOf, answersOf, objectNumberOf, setupNumber, setupIndex, writeNumber, writeLength}
+use Rattle.rules.specs.declared.Enforced.{Enforced}
+use Rattle.rules.specs.declared.Reading.{Reading}
+use Rattle.hvozdalka.specs.declared.CallOutcome.{CallOutcome}
+use Rattle.hvozdalka.specs.declared.CallEnforced.{CallEnforced}
+use Rattle.hvozdalka.specs.declared.SetupReading.{SetupReading}
+use Rattle.hvozdalka.specs.declared.SetupWriting.{SetupWriting}
+use Rattle.hvozdalka.specs.declared.Summary.{Summary}
+
+-- the call of four bytes
+abbrev pub callOf : ℕ → ℕ → ℕ → ℕ → Call
+callOf r p t e = record { request = r; process = p; target = t; extra = e }
+
+-- refusal number, the answers' numbers, and the object
+abbrev pub outcomeNumbers : Outcome → CallOutcome
+outcomeNumbers o =
+    record {
+      number = numberOf o;
+      mac = code (answersOf o .mac);
+      fc = code (answersOf o .fc);
+      sim = code (answersOf o .sim);
+      combined = code (answersOf o .combined);
+      object = objectNumberOf o;
+    }
+
+abbrev pub enforcedNumbers : Enforced → CallEnforced
+enforcedNumbers e = record { facility = e .facility; outcome = outcomeNumbers (e .outcome) }
+
+abbrev pub readingNumbers : Reading → SetupReading
+readingNumbers r = record { facility = r .facility; number = setupNumber (r .outcome); index = setupIndex (r .outcome) }
+
+abbrev pub writingNumbers : WriteOutcome → SetupWriting
+writingNumbers w = record { length = writeLength w; number = writeNumber w }
+
+-- switches and counters
+abbrev pub summaryOf : Facility → Summary
+summaryOf f = record { refusals = f .refusals; mac = f .mac; fc = f .fc; sim = f .sim; users = f .users; entered = f .entered }
+
+-- the same from an outcome that is known
+pub reading-is : (r q : Reading) (o : SetupOutcome) → r ≡ q → r .outcome ≡ o → record { facility = r .facility; number = setupNumber o; index = setupIndex o } ≡ readingNumbers q
+reading-is r q o e d =
+    sym (ap (λ (x : SetupOutcome). record { facility = r .facility; number = setupNumber x; index = setupIndex x }) d) ∙ ap (λ (x : Reading). readingNumbers x) e
+
+pub writing-is : (w v o : WriteOutcome) → w ≡ v → w ≡ o → writingNumbers o ≡ writingNumbers v
+writing-is w v o e d = ap (λ (x : WriteOutcome). writingNumbers x) (sym d ∙ e)
+
+-- how process p has object t open: 1 for reading, 2 for writing, 3 for both; 0 for a number that is none
+unfoldable pub openMarks : Facility → ℕ → ℕ → ℕ
+openMarks f p t = cond (ltb t mostObjects) (at (f .opens) (place p t)) 0
+
+pub marks-of : (f : Facility) (p t : ℕ) → t < mostObjects → at (f .opens) (p * 128 + t) ≡ openMarks f p t
+unfolding openMarks
+marks-of f p t h = rw (lt-ltb t mostObjects h)
+
+pub marks-none : (f : Facility) (p t : ℕ) → mostObjects ≤ t → 0 ≡ openMarks f p t
+unfolding openMarks
+marks-none f p t h = rw (le-ltb t mostObjects h)

@@ -1,0 +1,277 @@
+// The facility for C and Rust: `include/hvozdalka.h` declares these functions. Each is total: any bytes, any numbers, any facility.
+ghost use mathlib.Core.Path.{_≡_};
+ghost use Rattle.calls.specs.Replayed.{replayed};
+ghost use Rattle.hvozdalka.specs.Numbers.{callOf, enforcedNumbers, openMarks, outcomeNumbers, readingNumbers, summaryOf, writingNumbers};
+ghost use Rattle.in_place.specs.Layout.{facilityAt};
+ghost use Rattle.in_place.specs.Stores.{Becomes};
+ghost use Rattle.lines.specs.Printed.{blockText, facilityAfter};
+ghost use Rattle.rules.specs.Calls.{after, enforce, query};
+ghost use Rattle.rules.specs.Lines.{callsOf};
+ghost use Rattle.rules.specs.Matter.{holds};
+ghost use Rattle.rules.specs.Setup.{readSetup, writeSetup};
+ghost use Rattle.state.specs.State.{objectOf, processOf, userOf};
+ghost use Rattle.text.specs.Stored.{Stored};
+use lines::Printed;
+use state::Call;
+use state::Facility;
+use state::Object;
+use state::Outcome;
+use state::Process;
+use state::SetupOutcome;
+use state::User;
+use state::WriteOutcome;
+
+// A call's refusal number, the answers of the modules and their combination, and the object number that an accepted create gave (else 255).
+#[repr(C)]
+pub struct CallOutcome {
+    pub number: u8,
+    pub mac: u8,
+    pub fc: u8,
+    pub sim: u8,
+    pub combined: u8,
+    pub object: u8,
+}
+
+#[repr(C)]
+pub struct CallEnforced {
+    pub facility: Facility,
+    pub outcome: CallOutcome,
+}
+
+#[repr(C)]
+pub struct SetupReading {
+    pub facility: Facility,
+    pub number: u8,
+    pub index: u8,
+}
+
+#[repr(C)]
+pub struct SetupWriting {
+    pub length: usize,
+    pub number: u8,
+}
+
+// Switches and counters.
+#[repr(C)]
+pub struct Summary {
+    pub refusals: u32,
+    pub mac: u8,
+    pub fc: u8,
+    pub sim: u8,
+    pub users: u8,
+    pub entered: u8,
+}
+
+fn outcome_numbers(o: Outcome) -> CallOutcome
+    ensures { λ r. ⌜ r ≡ outcomeNumbers o ⌝ }
+{
+    let answers = o.answers();
+    let mac = answers.mac;
+    let fc = answers.fc;
+    let sim = answers.sim;
+    let combined = answers.combined;
+    CallOutcome {
+        number: o.number(),
+        mac: mac.code(),
+        fc: fc.code(),
+        sim: sim.code(),
+        combined: combined.code(),
+        object: o.object(),
+    }
+}
+
+// Reads a set-up. Number 0, or the refusal number 14 to 17 with the index of the record, and then the facility with all switches off.
+#[no_mangle]
+pub extern "C" fn hv_read_setup(bytes: &[u8]) -> SetupReading
+    ensures { λ r. ⌜ r ≡ readingNumbers (readSetup (now (bytes .entry))) ⌝ }
+{
+    let reading = setup::read_setup(bytes);
+    let facility = reading.facility;
+    let outcome = reading.outcome;
+    match outcome {
+        SetupOutcome::Accepted => SetupReading {
+            facility,
+            number: 0,
+            index: 0,
+        },
+        SetupOutcome::Refused { number, index } => SetupReading {
+            facility,
+            number,
+            index,
+        },
+    }
+}
+
+// Writes a facility's set-up into a lent buffer. Number 0 and the length, or 18 and 0 where the buffer is too short, and then it is untouched.
+#[no_mangle]
+pub extern "C" fn hv_write_setup(f: Facility, out: &mut [u8]) -> SetupWriting
+    ensures { λ r. ⌜ r ≡ writingNumbers ((writeSetup f (now (out .entry))) .outcome) ⌝ }
+    ensures { λ r. ⌜ now (out .exit) ≡ (writeSetup f (now (out .entry))) .buffer ⌝ }
+{
+    let written = setup::write_setup(f, out);
+    match written {
+        WriteOutcome::Written { length } => SetupWriting { length, number: 0 },
+        WriteOutcome::NoRoom => SetupWriting {
+            length: 0,
+            number: 18,
+        },
+    }
+}
+
+// What enforce would answer.
+#[no_mangle]
+pub extern "C" fn hv_query(
+    f: Facility,
+    request: u8,
+    process: u8,
+    target: u8,
+    extra: u8,
+) -> CallOutcome
+    ensures { λ r. ⌜ r ≡ outcomeNumbers (query f (callOf request process target extra)) ⌝ }
+{
+    let c = Call {
+        request,
+        process,
+        target,
+        extra,
+    };
+    outcome_numbers(calls::query(f, c))
+}
+
+// What enforce would answer, of a facility that is read where it is.
+#[no_mangle]
+pub extern "C" fn hv_query_at(
+    f: &[u8; 4988],
+    request: u8,
+    process: u8,
+    target: u8,
+    extra: u8,
+) -> CallOutcome
+    ensures { λ r. ⌜ r ≡ outcomeNumbers (query (facilityAt (now (f .entry))) (callOf request process target extra)) ⌝ }
+{
+    let c = Call {
+        request,
+        process,
+        target,
+        extra,
+    };
+    outcome_numbers(in_place::query_in(f, c))
+}
+
+// The facility after a call, and what the call came to.
+#[no_mangle]
+pub extern "C" fn hv_enforce(
+    f: Facility,
+    request: u8,
+    process: u8,
+    target: u8,
+    extra: u8,
+) -> CallEnforced
+    ensures { λ r. ⌜ r ≡ enforcedNumbers (enforce f (callOf request process target extra)) ⌝ }
+{
+    let c = Call {
+        request,
+        process,
+        target,
+        extra,
+    };
+    let enforced = calls::enforce(f, c);
+    let facility = enforced.facility;
+    let judged = enforced.outcome;
+    let outcome = outcome_numbers(judged);
+    CallEnforced { facility, outcome }
+}
+
+// A call on a facility where it is: its bytes become those of the facility after the call, and the padding stays.
+#[no_mangle]
+pub extern "C" fn hv_enforce_at(
+    f: &mut [u8; 4988],
+    request: u8,
+    process: u8,
+    target: u8,
+    extra: u8,
+) -> CallOutcome
+    ensures { λ r. ⌜ r ≡ outcomeNumbers (query (facilityAt (now (f .entry))) (callOf request process target extra)) ⌝ }
+    ensures { λ r. ⌜ Becomes (now (f .entry)) (now (f .exit)) (after (facilityAt (now (f .entry))) (callOf request process target extra)) ⌝ }
+{
+    let c = Call {
+        request,
+        process,
+        target,
+        extra,
+    };
+    outcome_numbers(in_place::enforce_in(f, c))
+}
+
+// The facility of a set-up after calls of four bytes each.
+#[no_mangle]
+pub extern "C" fn hv_replay(setup: &[u8], calls: &[u8]) -> Facility
+    ensures { λ r. ⌜ r ≡ replayed (now (setup .entry)) (now (calls .entry)) ⌝ }
+{
+    calls::replay(setup, calls)
+}
+
+// Whether object x holds the matter of object c after the calls.
+#[no_mangle]
+pub extern "C" fn hv_holds(setup: &[u8], calls: &[u8], x: u8, c: u8) -> bool
+    ensures { λ r. ⌜ r ≡ holds (now (setup .entry)) (callsOf (now (calls .entry))) x c ⌝ }
+{
+    calls::holds(setup, calls, x, c)
+}
+
+// The lines of the run program for a block of calls.
+#[no_mangle]
+pub extern "C" fn hv_put_block(f: Facility, first: u64, calls: &[u8], out: &mut [u8]) -> Printed
+    ensures { λ r. ⌜ Stored (now (out .entry)) 0 (blockText first f (now (calls .entry))) (now (out .exit)) (r .length) ⌝ }
+    ensures { λ r. ⌜ r .facility ≡ facilityAfter first f (now (calls .entry)) ⌝ }
+{
+    lines::put_block(f, first, calls, out)
+}
+
+// A user, a process and an object by their numbers; one that is none has all fields 0.
+#[no_mangle]
+pub extern "C" fn hv_user(f: Facility, u: u8) -> User
+    ensures { λ r. ⌜ r ≡ userOf f u ⌝ }
+{
+    f.user(u)
+}
+
+#[no_mangle]
+pub extern "C" fn hv_process(f: Facility, p: u8) -> Process
+    ensures { λ r. ⌜ r ≡ processOf f p ⌝ }
+{
+    f.process(p)
+}
+
+#[no_mangle]
+pub extern "C" fn hv_object(f: Facility, t: u8) -> Object
+    ensures { λ r. ⌜ r ≡ objectOf f t ⌝ }
+{
+    f.object(t)
+}
+
+// How process p has object t open: 1 for reading, 2 for writing, 3 for both; 0 for a number that is none.
+#[no_mangle]
+pub extern "C" fn hv_open_marks(f: Facility, p: u8, t: u8) -> u8
+    ensures { λ r. ⌜ r ≡ openMarks f p t ⌝ }
+{
+    if 128 <= t {
+        return 0;
+    }
+    state::at(&f.opens, (p as usize) * 128 + (t as usize))
+}
+
+// Switches and counters.
+#[no_mangle]
+pub extern "C" fn hv_summary(f: Facility) -> Summary
+    ensures { λ r. ⌜ r ≡ summaryOf f ⌝ }
+{
+    Summary {
+        refusals: f.refusals,
+        mac: f.mac,
+        fc: f.fc,
+        sim: f.sim,
+        users: f.users,
+        entered: f.entered,
+    }
+}

@@ -1,0 +1,4 @@
+-- A facility in the bytes of a C struct.
+pub mod Layout
+pub mod Stores
+pub mod Changes

@@ -1,0 +1,92 @@
+use Rattle.names.proofs.put_kind.Statement.{statement}
+use Rattle.names.proofs.put_kind.Tie as tie
+use Prim.Native.Nat.{_≤_}
+use mathlib.Core.Path.{refl}
+use native.Mathlib.Omega.{arith}
+use Prim.{tt}
+use Rattle.names.specs.Names.{noKind, kindWords, word-at, word-none, one-more}
+
+slice-aggregate-put-text : tie.Need-slice-aggregate-put-text
+slice-aggregate-put-text c = refl
+
+put-text-requires : tie.Need-put-text-requires
+put-text-requires c κs = tt
+
+slice-aggregate-put-text-2 : tie.Need-slice-aggregate-put-text-2
+slice-aggregate-put-text-2 c = refl
+
+put-text-requires-2 : tie.Need-put-text-requires-2
+put-text-requires-2 c κs = tt
+
+slice-aggregate-put-text-3 : tie.Need-slice-aggregate-put-text-3
+slice-aggregate-put-text-3 c = refl
+
+put-text-requires-3 : tie.Need-put-text-requires-3
+put-text-requires-3 c κs = tt
+
+slice-aggregate-put-text-4 : tie.Need-slice-aggregate-put-text-4
+slice-aggregate-put-text-4 c = refl
+
+put-text-requires-4 : tie.Need-put-text-requires-4
+put-text-requires-4 c κs = tt
+
+slice-aggregate-put-text-5 : tie.Need-slice-aggregate-put-text-5
+slice-aggregate-put-text-5 c = refl
+
+put-text-requires-5 : tie.Need-put-text-requires-5
+put-text-requires-5 c κs = tt
+
+same-length : tie.Need-same-length
+same-length c = c .before .before .put-text .kept .0
+
+returns : tie.Need-returns
+returns c = let a = c .before .before .before .before .before .before .before .args in word-at noKind kindWords (a .out .now) _ (a .place) _ (a .kind) 0 (c .before .before .before .before .before .match .keys1) (c .before .before .put-text .ensures)
+
+same-length-2 : tie.Need-same-length-2
+same-length-2 c = c .before .before .put-text2 .kept .0
+
+returns-2 : tie.Need-returns-2
+returns-2 c = let a = c .before .before .before .before .before .before .before .args in word-at noKind kindWords (a .out .now) _ (a .place) _ (a .kind) 1 (c .before .before .before .before .before .match .keys2) (c .before .before .put-text2 .ensures)
+
+same-length-3 : tie.Need-same-length-3
+same-length-3 c = c .before .before .put-text3 .kept .0
+
+returns-3 : tie.Need-returns-3
+returns-3 c = let a = c .before .before .before .before .before .before .before .args in word-at noKind kindWords (a .out .now) _ (a .place) _ (a .kind) 2 (c .before .before .before .before .before .match .keys3) (c .before .before .put-text3 .ensures)
+
+same-length-4 : tie.Need-same-length-4
+same-length-4 c = c .before .before .put-text4 .kept .0
+
+returns-4 : tie.Need-returns-4
+returns-4 c = let a = c .before .before .before .before .before .before .before .args in word-at noKind kindWords (a .out .now) _ (a .place) _ (a .kind) 3 (c .before .before .before .before .before .match .keys4) (c .before .before .put-text4 .ensures)
+
+same-length-5 : tie.Need-same-length-5
+same-length-5 c = c .before .before .put-text5 .kept .0
+
+returns-5 : tie.Need-returns-5
+returns-5 c = let a = c .before .before .before .before .before .before .before .args in let m = c .before .before .before .before .before .match .rest in word-none noKind kindWords (a .out .now) _ (a .place) _ (a .kind) (one-more 3 (a .kind) (m .1) (one-more 2 (a .kind) (m .0 .1) (one-more 1 (a .kind) (m .0 .0 .1) (one-more 0 (a .kind) (m .0 .0 .0 .1) (let z : 0 ≤ a .kind = omega arith in z))))) (c .before .before .put-text5 .ensures)
+
+pub put-kind-spec : {M : Type 1} → statement M
+put-kind-spec =
+    tie.close
+    (tie.spec
+    slice-aggregate-put-text
+    put-text-requires
+    slice-aggregate-put-text-2
+    put-text-requires-2
+    slice-aggregate-put-text-3
+    put-text-requires-3
+    slice-aggregate-put-text-4
+    put-text-requires-4
+    slice-aggregate-put-text-5
+    put-text-requires-5
+    same-length
+    returns
+    same-length-2
+    returns-2
+    same-length-3
+    returns-3
+    same-length-4
+    returns-4
+    same-length-5
+    returns-5)

@@ -1,0 +1,2 @@
+-- Words for numbers.
+pub mod Names

@@ -1,0 +1,40 @@
+use Rattle.words.proofs.put_state.Statement.{statement}
+use Rattle.words.proofs.put_state.Tie as tie
+use Prim.{tt}
+use mathlib.Core.Path.{refl}
+use borrow.Author.Needs.{needs}
+use Rattle.text.specs.Stored.{as-text}
+use Rattle.words.specs.Sentences.{objectState, object-lives, object-not}
+
+put-live-requires : tie.Need-put-live-requires
+put-live-requires c κs = tt
+
+same-length : tie.Need-same-length
+same-length c = search needs
+
+returns : tie.Need-returns
+returns c = let a = c .before .before .before .before .before .before .before .args in as-text (a .out .now) _ _ (objectState (a .o)) (a .place) _ (object-lives (a .o) (c .before .before .before .before .if1 .taken)) (c .before .before .put-live .ensures)
+
+slice-aggregate-put-text : tie.Need-slice-aggregate-put-text
+slice-aggregate-put-text c = refl
+
+put-text-requires : tie.Need-put-text-requires
+put-text-requires c κs = tt
+
+same-length-2 : tie.Need-same-length-2
+same-length-2 c = search needs
+
+returns-2 : tie.Need-returns-2
+returns-2 c = let a = c .before .before .before .before .before .before .before .before .args in as-text (a .out .now) _ _ (objectState (a .o)) (a .place) _ (object-not (a .o) (c .before .before .before .before .before .if1 .left)) (c .before .before .put-text .ensures)
+
+pub put-state-spec : {M : Type 1} → statement M
+put-state-spec =
+    tie.close
+    (tie.spec
+    put-live-requires
+    same-length
+    returns
+    slice-aggregate-put-text
+    put-text-requires
+    same-length-2
+    returns-2)

@@ -1,0 +1,2 @@
+-- A run in words.
+pub mod Sentences

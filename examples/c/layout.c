@@ -1,0 +1,113 @@
+/* Checks that hvozdalka.h and the library agree: the sizes and offsets of each struct, and each field by its value through the library. */
+#include <stddef.h>
+#include <stdio.h>
+#include <stdlib.h>
+#include <string.h>
+
+#include "hvozdalka.h"
+
+static int failures, checks;
+
+static void expect(int holds, const char *what, int number)
+{
+    checks++;
+    if (!holds) {
+        failures++;
+        printf("differs: %s %d\n", what, number);
+    }
+}
+
+_Static_assert(offsetof(hv_facility, mac) == 0, "mac");
+_Static_assert(offsetof(hv_facility, fc) == 1, "fc");
+_Static_assert(offsetof(hv_facility, sim) == 2, "sim");
+_Static_assert(offsetof(hv_facility, users) == 3, "users");
+_Static_assert(offsetof(hv_facility, clearances) == 4, "clearances");
+_Static_assert(offsetof(hv_facility, roles) == 20, "roles");
+_Static_assert(offsetof(hv_facility, trusts) == 36, "trusts");
+_Static_assert(offsetof(hv_facility, entered) == 52, "entered");
+_Static_assert(offsetof(hv_facility, lives) == 53, "lives");
+_Static_assert(offsetof(hv_facility, kinds) == 181, "kinds");
+_Static_assert(offsetof(hv_facility, levels) == 309, "levels");
+_Static_assert(offsetof(hv_facility, categories) == 437, "categories");
+_Static_assert(offsetof(hv_facility, datatypes) == 565, "datatypes");
+_Static_assert(offsetof(hv_facility, runnings) == 693, "runnings");
+_Static_assert(offsetof(hv_facility, owners) == 725, "owners");
+_Static_assert(offsetof(hv_facility, currents) == 757, "currents");
+_Static_assert(offsetof(hv_facility, readmarks) == 789, "readmarks");
+_Static_assert(offsetof(hv_facility, writemarks) == 821, "writemarks");
+_Static_assert(offsetof(hv_facility, automatics) == 853, "automatics");
+_Static_assert(offsetof(hv_facility, opens) == 885, "opens");
+_Static_assert(offsetof(hv_facility, refusals) == 4984, "refusals");
+_Static_assert(sizeof(hv_facility) == 4988, "facility");
+_Static_assert(offsetof(hv_enforced, outcome) == 4988 && sizeof(hv_enforced) == 4996, "enforced");
+_Static_assert(offsetof(hv_reading, number) == 4988 && offsetof(hv_reading, index) == 4989 && sizeof(hv_reading) == 4992, "reading");
+_Static_assert(offsetof(hv_printed, length) == 4992 && sizeof(hv_printed) == 5000, "printed");
+_Static_assert(sizeof(hv_outcome) == 6 && offsetof(hv_outcome, object) == 5, "outcome");
+_Static_assert(sizeof(hv_writing) == 16 && offsetof(hv_writing, number) == 8, "writing");
+_Static_assert(sizeof(hv_user_record) == 3 && sizeof(hv_process_record) == 6 && sizeof(hv_object_record) == 5, "records");
+_Static_assert(sizeof(hv_summary_record) == 12 && offsetof(hv_summary_record, entered) == 8, "summary");
+
+/* Each field of a facility of random bytes, as C has it and as the library reads it. */
+static void fields(hv_facility f)
+{
+    for (int u = 0; u < 256; u++) {
+        hv_user_record r = hv_user(f, (uint8_t)u);
+        int is = u < HV_USERS;
+        expect(r.clearance == (is ? f.clearances[u] : 0), "clearance", u);
+        expect(r.role == (is ? f.roles[u] : 0), "role", u);
+        expect(r.trusted == (is ? f.trusts[u] : 0), "trusted", u);
+    }
+    for (int p = 0; p < 256; p++) {
+        hv_process_record r = hv_process(f, (uint8_t)p);
+        int is = p < HV_PROCESSES;
+        expect(r.running == (is ? f.runnings[p] : 0), "running", p);
+        expect(r.owner == (is ? f.owners[p] : 0), "owner", p);
+        expect(r.current == (is ? f.currents[p] : 0), "current", p);
+        expect(r.readmark == (is ? f.readmarks[p] : 0), "read mark", p);
+        expect(r.writemark == (is ? f.writemarks[p] : 0), "write mark", p);
+        expect(r.automatic == (is ? f.automatics[p] : 0), "automatic", p);
+    }
+    for (int t = 0; t < 256; t++) {
+        hv_object_record r = hv_object(f, (uint8_t)t);
+        int is = t < HV_OBJECTS;
+        expect(r.live == (is ? f.lives[t] : 0), "live", t);
+        expect(r.kind == (is ? f.kinds[t] : 0), "kind", t);
+        expect(r.level == (is ? f.levels[t] : 0), "level", t);
+        expect(r.category == (is ? f.categories[t] : 0), "category", t);
+        expect(r.datatype == (is ? f.datatypes[t] : 0), "data type", t);
+    }
+    for (int p = 0; p < 40; p++)
+        for (int t = 0; t < 136; t++) {
+            int is = p < HV_PROCESSES && t < HV_OBJECTS;
+            expect(hv_open_marks(f, (uint8_t)p, (uint8_t)t) == (is ? f.opens[p * HV_OBJECTS + t] : 0), "open", p * 256 + t);
+        }
+    hv_summary_record s = hv_summary(f);
+    expect(s.mac == f.mac && s.fc == f.fc && s.sim == f.sim, "switches", 0);
+    expect(s.users == f.users && s.entered == f.entered && s.refusals == f.refusals, "counters", 0);
+}
+
+/* A call of no request gives the facility back: each byte of it, out of the library. */
+static void handed_back(hv_facility f)
+{
+    hv_enforced e = hv_enforce(f, 255, 0, 0, 0);
+    expect(memcmp(&e.facility, &f, offsetof(hv_facility, opens) + sizeof f.opens) == 0, "facility handed back", 0);
+    expect(e.facility.refusals == f.refusals, "refusals handed back", 0);
+    hv_facility g = f;
+    hv_outcome o = hv_enforce_at(&g, 255, 0, 0, 0);
+    expect(memcmp(&g, &f, sizeof f) == 0 && o.number == HV_NO_REQUEST, "facility where it is", 0);
+    expect(e.outcome.number == HV_NO_REQUEST && e.outcome.combined == HV_NOT_CARED && e.outcome.object == HV_NO_OBJECT, "outcome", 0);
+}
+
+int main(void)
+{
+    srand(1);
+    for (int round = 0; round < 20; round++) {
+        hv_facility f;
+        for (size_t i = 0; i < sizeof f; i++)
+            ((uint8_t *)&f)[i] = (uint8_t)(rand() >> 7);
+        fields(f);
+        handed_back(f);
+    }
+    printf("layout: %d checks, %d differ\n", checks, failures);
+    return failures != 0;
+}

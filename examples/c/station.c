@@ -1,0 +1,64 @@
+/* A window of the station: loads a set-up, logs in, opens a file, is refused another, and says why. */
+#include <stdio.h>
+
+#include "hvozdalka.h"
+
+/* MAC on alone; one untrusted user of clearance 2; the yard folder (level 0), the open notes (level 0), the restricted hull lines (level 2). */
+static const uint8_t setup[] = {
+    3, 1, 0, 0, 0, 0, 0, 0,
+    1, 2, HV_GENERAL, 0, 0, 0, 0, 0,
+    2, HV_DIRECTORY, 0, 0, 0, 0, 0, 0,
+    2, HV_FILE, 0, 0, 0, 0, 0, 0,
+    2, HV_FILE, 2, 0, 0, 0, 0, 0,
+};
+
+enum { YARD_FOLDER = 0, NOTES = 1, HULL_LINES = 2 };
+
+static const char *answer_name(uint8_t answer)
+{
+    static const char *const names[] = {"does not care", "granted", "not granted", "undefined"};
+    return answer < 4 ? names[answer] : "?";
+}
+
+/* The reason of the commonest refusals, for the person at the window. */
+static void say_why(hv_facility f, uint8_t process, uint8_t object, hv_outcome o)
+{
+    hv_process_record p = hv_process(f, process);
+    hv_object_record t = hv_object(f, object);
+    switch (o.number) {
+    case HV_ACCEPTED:
+        printf("accepted; current level %d, read mark %d, write mark %d\n", p.current, p.readmark, p.writemark);
+        break;
+    case HV_DENIED:
+        printf("refused with %d: MAC %s, FC %s, SIM %s\n", o.number, answer_name(o.mac), answer_name(o.fc), answer_name(o.sim));
+        printf("    the process has read up to level %d and the object has level %d\n", p.readmark, t.level);
+        break;
+    default:
+        printf("refused with %d\n", o.number);
+    }
+}
+
+static hv_facility call(hv_facility f, const char *words, uint8_t request, uint8_t process, uint8_t target, uint8_t extra)
+{
+    hv_enforced e = hv_enforce(f, request, process, target, extra);
+    printf("%s: ", words);
+    say_why(e.facility, process, target, e.outcome);
+    return e.facility;
+}
+
+int main(void)
+{
+    hv_reading r = hv_read_setup(setup, sizeof setup);
+    if (r.number != HV_ACCEPTED) {
+        printf("set-up refused with %d at record %d\n", r.number, r.index);
+        return 1;
+    }
+    hv_facility f = r.facility;
+    f = call(f, "login of user 0 at process 0", HV_LOGIN, 0, 0, 0);
+    f = call(f, "open the hull lines for reading", HV_READ_OPEN, 0, HULL_LINES, 0);
+    f = call(f, "open the notes for writing", HV_WRITE_OPEN, 0, NOTES, 0);
+    f = call(f, "make a file in the yard folder", HV_CREATE, 0, YARD_FOLDER, HV_FILE);
+    f = call(f, "read the hull lines", HV_READ, 0, HULL_LINES, 0);
+    printf("refusals counted: %u\n", (unsigned)hv_summary(f).refusals);
+    return 0;
+}

@@ -1,0 +1,101 @@
+//! A window of the station in Rust: the same calls as examples/c/station.c, over the same library.
+//! Build and run it with `examples/rust/build`.
+
+/// A facility: its bytes are the library's (include/hvozdalka.h names the fields).
+#[repr(C, align(4))]
+#[derive(Clone, Copy)]
+pub struct Facility([u8; 4988]);
+
+#[repr(C)]
+#[derive(Clone, Copy)]
+pub struct Reading {
+    pub facility: Facility,
+    pub number: u8,
+    pub index: u8,
+}
+
+#[repr(C)]
+#[derive(Clone, Copy, Debug, PartialEq)]
+pub struct Outcome {
+    pub number: u8,
+    pub mac: u8,
+    pub fc: u8,
+    pub sim: u8,
+    pub combined: u8,
+    pub object: u8,
+}
+
+#[repr(C)]
+#[derive(Clone, Copy)]
+pub struct Process {
+    pub running: u8,
+    pub owner: u8,
+    pub current: u8,
+    pub readmark: u8,
+    pub writemark: u8,
+    pub automatic: u8,
+}
+
+extern "C" {
+    fn hv_read_setup(bytes: *const u8, length: usize) -> Reading;
+    fn hv_query_at(f: *const Facility, request: u8, process: u8, target: u8, extra: u8) -> Outcome;
+    fn hv_enforce_at(f: *mut Facility, request: u8, process: u8, target: u8, extra: u8) -> Outcome;
+    fn hv_process(f: Facility, process: u8) -> Process;
+}
+
+const LOGIN: u8 = 21;
+const READ_OPEN: u8 = 13;
+const WRITE_OPEN: u8 = 20;
+
+/// MAC on alone; one untrusted user of clearance 2; the open notes (level 0) and the restricted hull lines (level 2).
+const SETUP: [u8; 32] = [
+    3, 1, 0, 0, 0, 0, 0, 0, //
+    1, 2, 0, 0, 0, 0, 0, 0, //
+    2, 0, 0, 0, 0, 0, 0, 0, //
+    2, 0, 2, 0, 0, 0, 0, 0,
+];
+
+impl Facility {
+    /// The fresh facility of a set-up, or the refusal number and the index of the record.
+    pub fn read(setup: &[u8]) -> Result<Facility, (u8, u8)> {
+        // Safe: the pointer and the length are those of a slice, and the function is total.
+        let r = unsafe { hv_read_setup(setup.as_ptr(), setup.len()) };
+        if r.number == 0 { Ok(r.facility) } else { Err((r.number, r.index)) }
+    }
+
+    pub fn query(&self, request: u8, process: u8, target: u8, extra: u8) -> Outcome {
+        unsafe { hv_query_at(self, request, process, target, extra) }
+    }
+
+    pub fn enforce(&mut self, request: u8, process: u8, target: u8, extra: u8) -> Outcome {
+        unsafe { hv_enforce_at(self, request, process, target, extra) }
+    }
+
+    pub fn process(&self, process: u8) -> Process {
+        unsafe { hv_process(*self, process) }
+    }
+}
+
+fn main() {
+    let mut f = match Facility::read(&SETUP) {
+        Ok(f) => f,
+        Err((number, index)) => {
+            println!("set-up refused with {number} at record {index}");
+            std::process::exit(1);
+        }
+    };
+    for (words, request, target) in [
+        ("login of user 0 at process 0", LOGIN, 0),
+        ("open the hull lines for reading", READ_OPEN, 1),
+        ("open the notes for writing", WRITE_OPEN, 0),
+    ] {
+        let foretold = f.query(request, 0, target, 0);
+        let outcome = f.enforce(request, 0, target, 0);
+        assert_eq!(foretold, outcome);
+        let p = f.process(0);
+        println!(
+            "{words}: number {}; current level {}, read mark {}, write mark {}",
+            outcome.number, p.current, p.readmark, p.writemark
+        );
+    }
+}

@@ -1,0 +1,180 @@
+/*
+ * Hvozdalka: a proved access decision facility, for C.
+ *
+ * Every function below is total: it ends, for any bytes, any numbers and any facility, and what it returns is given by a definition
+ * that it is proved equal to; the definition is named in brackets, and stands in the specs/ folder of the crate named with it. No
+ * function allocates, keeps state of its own, or reads or writes anything but its arguments, so any of them may be called from several
+ * threads at once.
+ *
+ * Two things are kept apart: a USER has a `clearance`, fixed by the set-up; a PROCESS has a `current` level, a read mark and a write
+ * mark, which move with its calls.
+ *
+ * A facility is a value: hv_enforce takes one and returns the next. hv_enforce_at changes one where it is, which is faster; it is proved
+ * to do the same.
+ *
+ * Bytes are passed as a pointer and a length. With length 0 the pointer may be anything but null; `out` must not overlap other arguments.
+ */
+#ifndef HVOZDALKA_H
+#define HVOZDALKA_H
+
+#include <stdbool.h>
+#include <stddef.h>
+#include <stdint.h>
+
+#ifdef __cplusplus
+extern "C" {
+#endif
+
+/* Limits: users, processes and objects of a facility, and bytes of a set-up. */
+#define HV_USERS 16
+#define HV_PROCESSES 32
+#define HV_OBJECTS 128
+#define HV_SETUP_MOST 1160
+
+/* The bytes that a line of hv_put_block has at most, and `short`. */
+#define HV_LINE_MOST 49
+#define HV_SHORT_MOST 6
+
+/* Requests: byte 0 of a call. Byte 1 is the process p, byte 2 the target t, byte 3 the extra e. */
+enum hv_request {
+    HV_ALTER = 0,
+    HV_CHANGE_OWNER = 1,
+    HV_CLONE = 2,                    /* t is the new process */
+    HV_CLOSE = 3,
+    HV_CREATE = 4,                   /* e is the kind; for a file or a directory t is the directory that it is made in */
+    HV_DELETE = 5,
+    HV_DELETE_DATA = 6,
+    HV_EXECUTE = 7,
+    HV_GET_PERMISSIONS_DATA = 8,
+    HV_GET_STATUS_DATA = 9,
+    HV_MODIFY_ACCESS_DATA = 10,
+    HV_MODIFY_PERMISSIONS_DATA = 11,
+    HV_READ = 12,
+    HV_READ_OPEN = 13,
+    HV_READ_WRITE_OPEN = 14,
+    HV_SEARCH = 15,
+    HV_SEND_SIGNAL = 16,             /* t is a process */
+    HV_SET_LEVEL = 17,               /* e is the level */
+    HV_TERMINATE = 18,
+    HV_WRITE = 19,
+    HV_WRITE_OPEN = 20,
+    HV_LOGIN = 21                    /* e is the user */
+};
+
+/* Numbers: what a call or a set-up comes to. */
+enum hv_number {
+    HV_ACCEPTED = 0,
+    HV_NO_REQUEST = 1,               /* the request is above 21 */
+    HV_NO_PROCESS_NUMBER = 2,        /* p, or for clone and send-signal t, is above 31 */
+    HV_NOT_RUNNING = 3,              /* p, or for send-signal t, does not run */
+    HV_NOT_FREE = 4,                 /* the new process number runs */
+    HV_NO_USER = 5,                  /* login: e is no user */
+    HV_NOT_LIVE = 6,                 /* t is no live object */
+    HV_NOT_OF_KIND = 7,              /* an object of t's kind does not have the request */
+    HV_NO_KIND = 8,                  /* create: e is above 3 */
+    HV_NOT_OPEN = 9,                 /* t is not open in that mode at p */
+    HV_FULL = 10,                    /* create: 128 objects are entered */
+    HV_NO_LEVEL = 11,                /* set-level: e is above 15 */
+    HV_DENIED = 12,                  /* the combined answer is not granted; counted */
+    HV_UNDEFINED_ANSWER = 13,        /* the combined answer is undefined; counted */
+    HV_SETUP_LENGTH = 14,            /* set-up: the length is no positive multiple of 8, or above 1,160 */
+    HV_SETUP_PLACE = 15,             /* set-up: a record's kind does not fit its place */
+    HV_SETUP_FULL = 16,              /* set-up: more than 16 users or 128 objects */
+    HV_SETUP_BYTE = 17,              /* set-up: a byte is not allowed */
+    HV_NO_ROOM = 18                  /* writing a set-up: the buffer does not hold it */
+};
+
+/* Answers of the modules. */
+enum hv_answer { HV_NOT_CARED = 0, HV_GRANTED = 1, HV_NOT_GRANTED = 2, HV_UNDEFINED = 3 };
+
+/* Kinds of object; roles; how an object is open; the value of a level or a category that is not set. */
+enum hv_kind { HV_FILE = 0, HV_DIRECTORY = 1, HV_CHANNEL = 2, HV_CONTROL_DATA = 3 };
+enum hv_role { HV_GENERAL = 0, HV_SECURITY_OFFICER = 1, HV_SYSTEM_ADMINISTRATOR = 2 };
+enum hv_marks { HV_OPEN_READING = 1, HV_OPEN_WRITING = 2 };
+#define HV_UNSET 255
+
+/* No object was given. */
+#define HV_NO_OBJECT 255
+
+/* The whole state: switches, users, objects, processes, opens and the counter of refusals. Three bytes before `refusals` are padding. */
+typedef struct hv_facility {
+    uint8_t mac, fc, sim;                       /* switches, each 0 or 1 */
+    uint8_t users;                              /* how many users there are */
+    uint8_t clearances[HV_USERS];               /* by user number */
+    uint8_t roles[HV_USERS];
+    uint8_t trusts[HV_USERS];
+    uint8_t entered;                            /* how many objects were entered, deleted ones included */
+    uint8_t lives[HV_OBJECTS];                  /* by object number */
+    uint8_t kinds[HV_OBJECTS];
+    uint8_t levels[HV_OBJECTS];
+    uint8_t categories[HV_OBJECTS];
+    uint8_t datatypes[HV_OBJECTS];
+    uint8_t runnings[HV_PROCESSES];             /* by process number */
+    uint8_t owners[HV_PROCESSES];
+    uint8_t currents[HV_PROCESSES];
+    uint8_t readmarks[HV_PROCESSES];
+    uint8_t writemarks[HV_PROCESSES];
+    uint8_t automatics[HV_PROCESSES];
+    uint8_t opens[HV_PROCESSES * HV_OBJECTS];   /* at process * 128 + object */
+    uint32_t refusals;
+} hv_facility;
+
+/* What a call came to: refusal number, answers of the modules and their combination, and the object that an accepted create gave (else 255). */
+typedef struct hv_outcome { uint8_t number, mac, fc, sim, combined, object; } hv_outcome;
+
+typedef struct hv_enforced { hv_facility facility; hv_outcome outcome; } hv_enforced;
+typedef struct hv_reading { hv_facility facility; uint8_t number, index; } hv_reading;
+typedef struct hv_writing { size_t length; uint8_t number; } hv_writing;
+typedef struct hv_printed { hv_facility facility; size_t length; } hv_printed;
+
+typedef struct hv_user_record { uint8_t clearance, role, trusted; } hv_user_record;
+typedef struct hv_process_record { uint8_t running, owner, current, readmark, writemark, automatic; } hv_process_record;
+typedef struct hv_object_record { uint8_t live, kind, level, category, datatype; } hv_object_record;
+typedef struct hv_summary_record { uint32_t refusals; uint8_t mac, fc, sim, users, entered; } hv_summary_record;
+
+/* Reads a set-up. Number 0 and the fresh facility; or the number 14 to 17, the index of the record refused (0 with 14), and the facility of
+ * a switches record with all off. [readSetup, rules/Setup] */
+hv_reading hv_read_setup(const uint8_t *bytes, size_t length);
+
+/* Writes a facility's set-up into `out`: switches, users, live objects in order. Number 0 and the length, and later bytes are untouched; or
+ * number 18 and length 0 where `out` is too short, and it is untouched. [writeSetup, rules/Setup] */
+hv_writing hv_write_setup(hv_facility f, uint8_t *out, size_t length);
+
+/* What hv_enforce would answer; nothing changes. [query, rules/Calls] */
+hv_outcome hv_query(hv_facility f, uint8_t request, uint8_t process, uint8_t target, uint8_t extra);
+
+/* A call: the facility after it, and what it came to. A refused call changes nothing but the counter of refusals. [enforce, rules/Calls] */
+hv_enforced hv_enforce(hv_facility f, uint8_t request, uint8_t process, uint8_t target, uint8_t extra);
+
+/* The same of a facility where it is, without a copy. After hv_enforce_at the bytes are those of the facility after the call, and the three
+ * bytes of padding are untouched. [query, after, rules/Calls, of facilityAt, in_place/Layout] */
+hv_outcome hv_query_at(const hv_facility *f, uint8_t request, uint8_t process, uint8_t target, uint8_t extra);
+hv_outcome hv_enforce_at(hv_facility *f, uint8_t request, uint8_t process, uint8_t target, uint8_t extra);
+
+/* The facility of a set-up after calls of four bytes each; one to three left-over bytes are no call. [replayed, calls/Replayed] */
+hv_facility hv_replay(const uint8_t *setup, size_t setup_length, const uint8_t *calls, size_t calls_length);
+
+/* Whether object x holds the matter of object c after the calls. [holds, rules/Matter] */
+bool hv_holds(const uint8_t *setup, size_t setup_length, const uint8_t *calls, size_t calls_length, uint8_t x, uint8_t c);
+
+/* The lines that the run program prints for a block of calls, the first of which has index `first`, stored at the front of `out`, and the
+ * facility after them. What does not fit is cut off: HV_LINE_MOST for each call and HV_SHORT_MOST hold it all. Where `first` is 2^63 or
+ * more no call is made. [blockText, facilityAfter, lines/Printed] */
+hv_printed hv_put_block(hv_facility f, uint64_t first, const uint8_t *calls, size_t calls_length, uint8_t *out, size_t out_length);
+
+/* A user, a process, an object; all fields are 0 for a number that is none. [userOf, processOf, objectOf, state/State] */
+hv_user_record hv_user(hv_facility f, uint8_t user);
+hv_process_record hv_process(hv_facility f, uint8_t process);
+hv_object_record hv_object(hv_facility f, uint8_t object);
+
+/* How a process has an object open; 0 for a number that is none. [openMarks, hvozdalka/Numbers] */
+uint8_t hv_open_marks(hv_facility f, uint8_t process, uint8_t object);
+
+/* Switches and counters. [summaryOf, hvozdalka/Numbers] */
+hv_summary_record hv_summary(hv_facility f);
+
+#ifdef __cplusplus
+}
+#endif
+
+#endif

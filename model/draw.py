@@ -1,0 +1,146 @@
+"""Draws a run as an SVG: python3 -B model/draw.py SETUP_FILE < CALLS > PICTURE.svg
+
+One lane for each process that runs: its current level as a line, with the band from read mark to write mark, over the calls. A call is
+marked in the lane of the process that made it: a dot where it was accepted, a cross with its number where it was refused.
+"""
+
+import sys
+from xml.sax.saxutils import escape
+
+import model
+import run
+import words
+
+STEP, LANE, GAP, LEFT, TOP = 46, 112, 34, 150, 48
+RIGHT, BOTTOM = 24, 46
+
+
+def states(facility):
+    """Owner, current level and marks of each process that runs."""
+    return {p: (r.owner, r.current, r.read_mark, r.write_mark) for p, r in enumerate(facility.processes) if r is not None}
+
+
+def record(setup, calls):
+    """The state before the first call and after each, and each call with its number."""
+    number, index, facility = model.read_setup(setup)
+    if number != 0:
+        sys.exit("set-up refused at record %d: %d %s" % (index, number, words.NUMBERS[number]))
+    seen, made = [states(facility)], []
+    for i in range(0, len(calls) - 3, 4):
+        call = tuple(calls[i:i + 4])
+        target = words.target_words(facility, call[0], call[2], call[3])
+        outcome = model.enforce(facility, call)
+        made.append((call, outcome.number, words.word(words.REQUESTS, call[0], "no request") + target))
+        seen.append(states(facility))
+    clearances = [user.clearance for user in facility.users]
+    return seen, made, clearances
+
+
+class Picture:
+    def __init__(self, seen, made, clearances):
+        self.seen, self.made, self.clearances = seen, made, clearances
+        self.lanes = sorted({p for state in seen for p in state} | {call[1] for call, _, _ in made if call[1] < model.PROCESSES})
+        levels = [level for state in seen for _, current, read, write in state.values() for level in (current, read, write if write < 15 else 0)]
+        self.top = max(levels + clearances + [1]) + 1
+        self.parts = []
+
+    def x(self, k):
+        return LEFT + k * STEP
+
+    def lane(self, p):
+        return TOP + self.lanes.index(p) * (LANE + GAP)
+
+    def y(self, p, level):
+        return self.lane(p) + LANE - LANE * min(level, self.top) / self.top
+
+    def add(self, part, *values):
+        self.parts.append(part % values)
+
+    def draw(self):
+        width = self.x(len(self.made)) + RIGHT + STEP
+        height = TOP + len(self.lanes) * (LANE + GAP) + BOTTOM
+        self.add('<svg xmlns="http://www.w3.org/2000/svg" width="%d" height="%d" viewBox="0 0 %d %d" font-family="sans-serif" font-size="12">',
+                 width, height, width, height)
+        self.add('<rect width="100%%" height="100%%" fill="white"/>')
+        self.legend()
+        for p in self.lanes:
+            self.frame(p)
+            self.bands(p)
+            self.current(p)
+        for k, (call, number, text) in enumerate(self.made):
+            self.call(k, call, number, text)
+        self.add('</svg>')
+        return "\n".join(self.parts) + "\n"
+
+    def legend(self):
+        self.add('<g fill="#333"><rect x="%d" y="12" width="22" height="12" fill="#cfe0f3"/><text x="%d" y="22">from read mark to write mark</text>', LEFT, LEFT + 28)
+        self.add('<path d="M%d 18h22" stroke="#15467a" stroke-width="3"/><text x="%d" y="22">current level</text>', LEFT + 230, LEFT + 258)
+        self.add('<circle cx="%d" cy="18" r="4" fill="#15467a"/><text x="%d" y="22">accepted</text>', LEFT + 360, LEFT + 370)
+        self.add('<path d="M%d 13l10 10m0 -10l-10 10" stroke="#b3261e" stroke-width="3"/><text x="%d" y="22">refused, with its number</text></g>', LEFT + 445, LEFT + 462)
+
+    def frame(self, p):
+        y, end = self.lane(p), self.x(len(self.made)) + STEP
+        self.add('<text x="12" y="%d" font-weight="bold">process %d</text>', y + 16, p)
+        owners = []
+        for state in self.seen:
+            if p in state and state[p][0] not in owners:
+                owners.append(state[p][0])
+        for n, owner in enumerate(owners):
+            self.add('<text x="12" y="%d" fill="#555">user %d, clearance %d</text>', y + 34 + 15 * n, owner, self.clearances[owner])
+        for level in range(self.top + 1):
+            at = self.y(p, level)
+            self.add('<path d="M%d %.1fH%d" stroke="#e4e4e4"/>', LEFT, at, end)
+            label = str(level) if level < self.top else "15"
+            self.add('<text x="%d" y="%.1f" text-anchor="end" fill="#777" font-size="10">%s</text>', LEFT - 6, at + 3.5, label)
+
+    def spans(self, p):
+        """State of p between calls: (first place, behind the last, state)."""
+        begun = None
+        for k, state in enumerate(self.seen + [{}]):
+            value = state.get(p)
+            if begun and value != begun[1]:
+                yield begun[0], k, begun[1]
+                begun = None
+            if begun is None and value is not None:
+                begun = (k, value)
+
+    def bands(self, p):
+        for first, last, (_, _, read, write) in self.spans(p):
+            low, high = self.y(p, read), self.y(p, write)
+            self.add('<rect x="%.1f" y="%.1f" width="%.1f" height="%.1f" fill="#cfe0f3"/>', self.x(first - 0.5) + STEP / 2, high - 3,
+                     (last - first) * STEP, low - high + 6)
+
+    def current(self, p):
+        path, previous = "", None
+        for first, last, (_, level, _, _) in self.spans(p):
+            join = "L" if previous == first else "M"
+            path += "%s%.1f %.1fH%.1f" % (join, self.x(first), self.y(p, level), self.x(last))
+            previous = last
+        self.add('<path d="%s" fill="none" stroke="#15467a" stroke-width="3"/>', path)
+
+    def call(self, k, call, number, text):
+        at = self.x(k + 1)
+        self.add('<text x="%.1f" y="%d" text-anchor="middle" fill="#777" font-size="10">%d</text>', at, TOP - 8, k + 1)
+        p = call[1]
+        if p >= model.PROCESSES:
+            return
+        after, before = self.seen[k + 1].get(p), self.seen[k].get(p)
+        level = (after or before or (0, 0, 0, 0))[1]
+        y = self.y(p, level)
+        self.add('<g><title>%d: %s: %d %s</title>', k + 1, escape(text), number, escape(words.NUMBERS[number]))
+        if number == 0:
+            self.add('<circle cx="%.1f" cy="%.1f" r="5" fill="#15467a"/>', at, y)
+        else:
+            self.add('<path d="M%.1f %.1fl12 12m0 -12l-12 12" stroke="#b3261e" stroke-width="3"/><text x="%.1f" y="%.1f" fill="#b3261e" font-size="11" font-weight="bold">%d</text>',
+                     at - 6, y - 6, at + 8, y - 7, number)
+        request = words.word(words.REQUESTS, call[0], "?")
+        self.add('<text x="%.1f" y="%.1f" text-anchor="middle" fill="#333" font-size="9">%s</text></g>', at, self.lane(p) + LANE + 15 + 10 * (k % 2), escape(request))
+
+
+def main():
+    name = sys.argv[1] if len(sys.argv) > 1 else "setup.bin"
+    sys.stdout.write(Picture(*record(run.read_file(name), sys.stdin.buffer.read())).draw())
+
+
+if __name__ == "__main__":
+    main()

@@ -1,0 +1,51 @@
+"""The story of docs/LEVELS.md: python3 -B model/story.py FOLDER writes FOLDER/data/setup.bin and FOLDER/stdin.
+
+Two windows of one user, the restricted hull lines and the open yard folder; then a clone, a new login and a user of a lower clearance.
+"""
+
+import os
+import sys
+
+from model import CLONE, CREATE, DIRECTORY, FILE, LOGIN, READ_OPEN, SET_LEVEL, TERMINATE, WRITE, WRITE_OPEN
+from records import object_record, switches_record, user_record
+
+DESIGNER, FITTER = 0, 1
+YARD_FOLDER, YARD_NOTES, HULL_LINES = 0, 1, 2
+LEFT, RIGHT, COPY, OTHER = 0, 1, 2, 3
+
+SETUP = (switches_record(1, 0, 0)
+         + user_record(3, 0, 0) + user_record(1, 0, 0)
+         + object_record(DIRECTORY, 0, 0, 0) + object_record(FILE, 0, 0, 0) + object_record(FILE, 3, 0, 0))
+
+CALLS = [
+    (LOGIN, LEFT, 0, DESIGNER),
+    (LOGIN, RIGHT, 0, DESIGNER),
+    (READ_OPEN, LEFT, YARD_NOTES, 0),
+    (READ_OPEN, LEFT, HULL_LINES, 0),
+    (WRITE_OPEN, LEFT, YARD_NOTES, 0),
+    (CREATE, LEFT, YARD_FOLDER, FILE),
+    (WRITE_OPEN, RIGHT, YARD_NOTES, 0),
+    (WRITE, RIGHT, YARD_NOTES, 0),
+    (READ_OPEN, RIGHT, HULL_LINES, 0),
+    (SET_LEVEL, LEFT, 0, 0),
+    (CLONE, LEFT, COPY, 0),
+    (WRITE_OPEN, COPY, YARD_NOTES, 0),
+    (TERMINATE, LEFT, 0, 0),
+    (LOGIN, LEFT, 0, DESIGNER),
+    (WRITE_OPEN, LEFT, YARD_NOTES, 0),
+    (LOGIN, OTHER, 0, FITTER),
+    (READ_OPEN, OTHER, HULL_LINES, 0),
+]
+
+
+def main():
+    folder = sys.argv[1]
+    os.makedirs(os.path.join(folder, "data"), exist_ok=True)
+    with open(os.path.join(folder, "data", "setup.bin"), "wb") as file:
+        file.write(SETUP)
+    with open(os.path.join(folder, "stdin"), "wb") as file:
+        file.write(b"".join(bytes(call) for call in CALLS))
+
+
+if __name__ == "__main__":
+    main()

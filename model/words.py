@@ -1,0 +1,80 @@
+"""A run in words: python3 -B model/words.py SETUP_FILE < CALLS prints what the program `run_words` prints."""
+
+import sys
+
+import model
+import run
+
+KINDS = ["file", "directory", "channel", "control data"]
+ANSWERS = ["not cared", "granted", "not granted", "undefined"]
+REQUESTS = ["alter", "change-owner", "clone", "close", "create", "delete", "delete-data", "execute", "get-permissions-data",
+            "get-status-data", "modify-access-data", "modify-permissions-data", "read", "read-open", "read&write-open", "search",
+            "send-signal", "set-level", "terminate", "write", "write-open", "login"]
+NUMBERS = ["accepted", "no such request", "no such process number", "process does not run", "process number is not free", "no such user",
+           "object is not live", "object's kind lacks the request", "no such kind", "object is not open in that mode",
+           "128 objects are entered", "no such level", "not granted", "undefined", "length is not allowed", "kind does not fit the place",
+           "too many users or objects", "a byte is not allowed"]
+
+
+def word(words, number, none):
+    return words[number] if number < len(words) else none
+
+
+def process_words(facility, p):
+    process = facility.processes[p] if p < model.PROCESSES else None
+    if process is None:
+        return "not running"
+    return "user %d, clearance %d, current %d, marks %d to %d" % (
+        process.owner, facility.users[process.owner].clearance, process.current, process.read_mark, process.write_mark)
+
+
+def object_words(facility, t):
+    thing = facility.objects[t] if t < len(facility.objects) else None
+    if thing is None or not thing.live:
+        return " object %d (not live)" % t
+    level = "unset" if thing.level == model.UNSET else str(thing.level)
+    return " object %d (%s, level %s)" % (t, KINDS[thing.kind], level)
+
+
+def target_words(facility, request, t, e):
+    if request > 21:
+        return " number %d" % request
+    if request == model.LOGIN:
+        return " user %d" % e
+    if request in (model.CLONE, model.SEND_SIGNAL):
+        return " process %d" % t
+    if request == model.SET_LEVEL:
+        return " level %d" % e
+    if request == model.TERMINATE:
+        return ""
+    if request == model.CREATE:
+        return " " + word(KINDS, e, "no kind") + (" in" + object_words(facility, t) if model.needs_object(request, e) else "")
+    return object_words(facility, t)
+
+
+def sentence(index, facility, call):
+    request, p, t, e = call
+    before = process_words(facility, p)
+    target = target_words(facility, request, t, e)
+    outcome = model.enforce(facility, call)
+    return "%d process %d (%s): %s%s: MAC %s, FC %s, SIM %s, combined %s: %d %s; then %s" % (
+        index, p, before, word(REQUESTS, request, "no request"), target, ANSWERS[outcome.mac], ANSWERS[outcome.fc], ANSWERS[outcome.sim],
+        ANSWERS[outcome.combined], outcome.number, NUMBERS[outcome.number], process_words(facility, p))
+
+
+def tell(setup, calls):
+    number, index, facility = model.read_setup(setup)
+    if number != 0:
+        return ["set-up refused at record %d: %d %s" % (index, number, NUMBERS[number])]
+    lines = [sentence(i // 4 + 1, facility, tuple(calls[i:i + 4])) for i in range(0, len(calls) - 3, 4)]
+    return lines + (["short"] if len(calls) % 4 else [])
+
+
+def main():
+    name = sys.argv[1] if len(sys.argv) > 1 else "setup.bin"
+    lines = tell(run.read_file(name), sys.stdin.buffer.read())
+    sys.stdout.write("".join(line + "\n" for line in lines))
+
+
+if __name__ == "__main__":
+    main()
