@@ -1,4 +1,5 @@
-/* Compares the proved facility with the same rules in plain C: first that they agree on random calls, then how long each takes. All in one run. */
+/* Compares the proved facility with the same rules in plain C: first that they agree on random calls, then how long each takes. All in one
+ * run. Each line of the output has fields between tabs; bench/measure.py makes tables of them. */
 #define _POSIX_C_SOURCE 200809L
 #include <stdio.h>
 #include <stdlib.h>
@@ -7,7 +8,7 @@
 
 #include "plain.h"
 
-enum { CALLS = 4096, ROUNDS = 7, TRIALS = 400000 };
+enum { CALLS = 4096, WARM = 20, ROUNDS = 800, TRIALS = 400000 };
 
 static uint64_t seed = 1;
 
@@ -17,15 +18,31 @@ static uint32_t random_below(uint32_t n)
     return (uint32_t)((seed >> 33) % n);
 }
 
+static uint8_t byte_below(uint32_t n)
+{
+    return (uint8_t)random_below(n);
+}
+
+/* A number below n, sometimes unset. */
+static uint8_t or_unset(uint32_t n)
+{
+    return random_below(20) ? byte_below(n) : HV_UNSET;
+}
+
 /* A set-up with users of all roles and objects of all kinds. */
 static size_t random_setup(uint8_t *s, int switches)
 {
     size_t at = 8, objects = 4 + random_below(30);
     memset(s, 0, HV_SETUP_MOST);
     memcpy(s, (uint8_t[4]){3, switches & 1, (switches >> 1) & 1, (switches >> 2) & 1}, 4);
-    for (int u = 0; u < 4; u++, at += 8) memcpy(s + at, (uint8_t[4]){1, (uint8_t)random_below(6), (uint8_t)random_below(3), (uint8_t)(random_below(5) == 0)}, 4);
-    for (size_t t = 0; t < objects; t++, at += 8)
-        memcpy(s + at, (uint8_t[5]){2, (uint8_t)random_below(4), (uint8_t)(random_below(20) ? random_below(6) : HV_UNSET), (uint8_t)(random_below(20) ? random_below(3) : HV_UNSET), (uint8_t)(random_below(4) == 0)}, 5);
+    for (int u = 0; u < 4; u++, at += 8) {
+        uint8_t clearance = byte_below(6), role = byte_below(3), trusted = random_below(5) == 0;
+        memcpy(s + at, (uint8_t[4]){1, clearance, role, trusted}, 4);
+    }
+    for (size_t t = 0; t < objects; t++, at += 8) {
+        uint8_t kind = byte_below(4), level = or_unset(6), category = or_unset(3), datatype = random_below(4) == 0;
+        memcpy(s + at, (uint8_t[5]){2, kind, level, category, datatype}, 5);
+    }
     return at;
 }
 
@@ -59,7 +76,8 @@ static int agree(void)
             if (r.number != number || r.index != index || !same(&plain, &proved)) return printf("set-ups differ\n"), 0;
             hv_writing w = hv_write_setup(proved, out, sizeof out);
             uint8_t again[HV_SETUP_MOST];
-            if (w.length != plain_write_setup(&plain, again, sizeof again) || memcmp(out, again, w.length) != 0) return printf("set-ups written out differ\n"), 0;
+            if (w.length != plain_write_setup(&plain, again, sizeof again) || memcmp(out, again, w.length) != 0)
+                return printf("set-ups written out differ\n"), 0;
             left = 400;
         }
         uint8_t c[4];
@@ -77,7 +95,7 @@ static int agree(void)
         if (memcmp(&o, &e.outcome, sizeof o) != 0 || memcmp(&o, &q, sizeof o) != 0 || !same(&plain, &proved))
             return printf("call %d %d %d %d differs: %d and %d\n", c[0], c[1], c[2], c[3], o.number, e.outcome.number), 0;
     }
-    printf("agreement: %d random calls, %ld accepted, none differs\n", TRIALS, accepted);
+    printf("agreement\t%d\t%ld\n", TRIALS, accepted);
     return 1;
 }
 
@@ -139,6 +157,13 @@ static void in_place_query(const list *l)
     sink = sum;
 }
 
+static void by_value_query(const list *l)
+{
+    uint32_t sum = 0;
+    for (int k = 0; k < l->n; k++) sum += plain_query_by_value(l->start, l->calls[k][0], l->calls[k][1], l->calls[k][2], l->calls[k][3]).number;
+    sink = sum;
+}
+
 static void proved_enforce(const list *l)
 {
     hv_enforced e = {.facility = l->start};
@@ -168,6 +193,13 @@ static void proved_block(const list *l)
     sink = (uint32_t)hv_put_block(l->start, 1, l->calls[0], (size_t)l->n * 4, out, sizeof out).length;
 }
 
+static void proved_block_at(const list *l)
+{
+    static uint8_t out[CALLS * HV_LINE_MOST + HV_SHORT_MOST];
+    hv_facility f = l->start;
+    sink = (uint32_t)hv_put_block_at(&f, 1, l->calls[0], (size_t)l->n * 4, out, sizeof out);
+}
+
 static void in_place_block(const list *l)
 {
     static char out[CALLS * HV_LINE_MOST + HV_SHORT_MOST];
@@ -186,33 +218,32 @@ static int by_size(const void *a, const void *b)
     return (x > y) - (x < y);
 }
 
-/* Nanoseconds for each call: the median of the rounds, and how far apart the rounds are. */
-static double timed(void (*work)(const list *), const list *l, double *spread)
-{
-    double t[ROUNDS];
-    int repeats = 40;
-    for (double from = now(); now() - from < 5e7;) work(l);
-    for (int r = 0; r < ROUNDS; r++) {
-        double from = now();
-        for (int k = 0; k < repeats; k++) work(l);
-        t[r] = (now() - from) / repeats / l->n;
-    }
-    qsort(t, ROUNDS, sizeof t[0], by_size);
-    *spread = (t[ROUNDS - 1] - t[0]) / t[ROUNDS / 2];
-    return t[ROUNDS / 2];
-}
+enum { WORKS = 4 };
+typedef void work(const list *);
 
-/* Proved where it is, plain where it is, proved by value, plain by value. */
-static void row(const char *name, const list *l, void (*at)(const list *), void (*plain)(const list *), void (*value)(const list *), void (*plain_value)(const list *))
+/* Where it is, proved and plain; by value, proved and plain; NULL where there is nothing to measure. In each round each takes its turn, so
+ * that a slow moment of the machine falls on all of them. Of each: nanoseconds for a call, the best and the median of the rounds. */
+static void row(const char *table, const char *name, const list *l, work *const works[WORKS])
 {
-    void (*const works[4])(const list *) = {at, plain, value, plain_value};
-    double t[4] = {0}, noise = 0;
-    for (int k = 0; k < 4; k++) {
-        double spread = 0;
-        if (works[k]) t[k] = timed(works[k], l, &spread);
-        if (spread > noise) noise = spread;
+    static double t[WORKS][ROUNDS];
+    for (int r = -WARM; r < ROUNDS; r++)
+        for (int k = 0; k < WORKS; k++) {
+            if (!works[k]) continue;
+            double from = now();
+            works[k](l);
+            if (r >= 0) t[k][r] = (now() - from) / l->n;
+        }
+    printf("%s\t%s", table, name);
+    for (int k = 0; k < WORKS; k++) {
+        if (!works[k]) {
+            printf("\t-\t-");
+            continue;
+        }
+        qsort(t[k], ROUNDS, sizeof t[k][0], by_size);
+        printf("\t%.2f\t%.2f", t[k][0], t[k][ROUNDS / 2]);
     }
-    printf("%-30s %7.1f %7.1f %6.1f  %9.0f   %7.1f %7.1f %6.1f   %4.0f%%\n", name, t[0], t[1], t[0] / t[1], 1e9 / t[0], t[2], t[3], t[2] > 0 ? t[2] / (t[3] > 0 ? t[3] : t[1]) : 0, 100 * noise);
+    printf("\n");
+    fflush(stdout);
 }
 
 static uint8_t setup_bytes[HV_SETUP_MOST];
@@ -253,25 +284,32 @@ int main(void)
         random_call(c);
         plain_enforce(&f, c[0], c[1], c[2], c[3]);
     }
-    printf("\n%-30s %-34s   %-22s\n", "", "where it is", "by value");
-    printf("%-30s %7s %7s %6s  %9s   %7s %7s %6s   %5s\n", "nanoseconds for each call", "proved", "plain", "ratio", "calls/s", "proved", "plain", "ratio", "noise");
+    work *const queries[WORKS] = {proved_query_at, in_place_query, proved_query, by_value_query};
+    work *const enforces[WORKS] = {proved_enforce_at, in_place_enforce, proved_enforce, by_value_enforce};
+    work *const blocks[WORKS] = {proved_block_at, in_place_block, proved_block, NULL};
+    work *const setups[WORKS] = {NULL, in_place_setup, proved_setup, NULL};
     make(&l, &f, ANY);
-    row("query", &l, proved_query_at, in_place_query, proved_query, NULL);
-    row("enforce, any", &l, proved_enforce_at, in_place_enforce, proved_enforce, by_value_enforce);
+    row("call", "query", &l, queries);
+    row("call", "enforce, any", &l, enforces);
     make(&l, &f, REFUSED);
-    row("enforce, refused", &l, proved_enforce_at, in_place_enforce, proved_enforce, by_value_enforce);
+    row("call", "enforce, refused", &l, enforces);
     make(&l, &f, ACCEPTED);
-    row("enforce, accepted", &l, proved_enforce_at, in_place_enforce, proved_enforce, by_value_enforce);
+    row("call", "enforce, accepted", &l, enforces);
     static const struct { uint8_t a[4], b[4]; const char *name; } each[] = {
-        {{HV_READ, 0, 1, 0}, {HV_READ, 0, 1, 0}, "  read"},
-        {{HV_READ_OPEN, 0, 1, 0}, {HV_READ_OPEN, 1, 1, 0}, "  read-open"},
-        {{HV_WRITE_OPEN, 0, 1, 0}, {HV_CLOSE, 0, 1, 0}, "  write-open and close"},
-        {{HV_SEND_SIGNAL, 0, 1, 0}, {HV_SEND_SIGNAL, 1, 0, 0}, "  send-signal"},
-        {{HV_SET_LEVEL, 0, 0, 0}, {HV_SET_LEVEL, 1, 0, 0}, "  set-level"},
-        {{HV_LOGIN, 9, 0, 0}, {HV_TERMINATE, 9, 0, 0}, "  login and terminate"},
-        {{HV_CLONE, 0, 9, 0}, {HV_TERMINATE, 9, 0, 0}, "  clone and terminate"},
+        {{HV_READ, 0, 1, 0}, {HV_READ, 0, 1, 0}, "read"},
+        {{HV_READ_OPEN, 0, 1, 0}, {HV_READ_OPEN, 1, 1, 0}, "read-open"},
+        {{HV_WRITE_OPEN, 0, 1, 0}, {HV_CLOSE, 0, 1, 0}, "write-open and close"},
+        {{HV_SEND_SIGNAL, 0, 1, 0}, {HV_SEND_SIGNAL, 1, 0, 0}, "send-signal"},
+        {{HV_SET_LEVEL, 0, 0, 0}, {HV_SET_LEVEL, 1, 0, 0}, "set-level"},
+        {{HV_LOGIN, 9, 0, 0}, {HV_TERMINATE, 9, 0, 0}, "login and terminate"},
+        {{HV_CLONE, 0, 9, 0}, {HV_TERMINATE, 9, 0, 0}, "clone and terminate"},
     };
-    static const uint8_t small[] = {3, 1, 1, 1, 0, 0, 0, 0, 1, 5, 0, 0, 0, 0, 0, 0, 2, HV_DIRECTORY, 0, 0, 0, 0, 0, 0, 2, HV_FILE, 0, 0, 0, 0, 0, 0};
+    static const uint8_t small[] = {
+        3, 1, 1, 1, 0, 0, 0, 0,
+        1, 5, 0, 0, 0, 0, 0, 0,
+        2, HV_DIRECTORY, 0, 0, 0, 0, 0, 0,
+        2, HV_FILE, 0, 0, 0, 0, 0, 0,
+    };
     plain_read_setup(&start, small, sizeof small, &index);
     for (uint8_t p = 0; p < 2; p++) {
         plain_enforce(&start, HV_LOGIN, p, 0, 0);
@@ -284,11 +322,11 @@ int main(void)
         hv_facility g = start;
         for (int i = 0; i < CALLS; i++)
             if (plain_enforce(&g, l.calls[i][0], l.calls[i][1], l.calls[i][2], l.calls[i][3]).number != 0) return printf("%s is refused\n", each[k].name), 1;
-        row(each[k].name, &l, proved_enforce_at, in_place_enforce, proved_enforce, by_value_enforce);
+        row("call", each[k].name, &l, enforces);
     }
     make(&l, &f, ANY);
-    row("enforce and line, in blocks", &l, proved_block, in_place_block, NULL, NULL);
+    row("whole", "enforce and line, in blocks", &l, blocks);
     l.n = 64;
-    row("set-up read and written out", &l, proved_setup, in_place_setup, NULL, NULL);
+    row("whole", "set-up read and written out", &l, setups);
     return 0;
 }

@@ -186,6 +186,11 @@ hv_outcome plain_enforce(hv_facility *f, uint8_t request, uint8_t process, uint8
     return enforce(f, request, process, target, extra);
 }
 
+hv_outcome plain_query_by_value(hv_facility f, uint8_t request, uint8_t process, uint8_t target, uint8_t extra)
+{
+    return plain_query(&f, request, process, target, extra);
+}
+
 hv_enforced plain_enforce_by_value(hv_facility f, uint8_t request, uint8_t process, uint8_t target, uint8_t extra)
 {
     hv_enforced e;

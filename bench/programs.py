@@ -1,4 +1,4 @@
-"""The run program, the same in plain C, and the model in Python, on 1,000,000 calls: the same output, and how long each takes."""
+"""The run program, the same in plain C, and the model in Python, on the same calls: the same output, and how long each takes."""
 
 import os
 import random
@@ -16,7 +16,7 @@ from records import object_record, switches_record, user_record  # noqa: E402
 PROVED = [os.path.join(ROOT, "target", "bin", "run")]
 PLAIN = [os.path.join(ROOT, "target", "bench", "plain_run")]
 MODEL = [sys.executable, "-B", os.path.join(ROOT, "model", "run.py")]
-CALLS, MODEL_CALLS, ROUNDS = 1000000, 100000, 5
+CALLS, MODEL_CALLS, ROUNDS, MODEL_ROUNDS = 1000000, 100000, 25, 5
 
 
 def setup(rng):
@@ -29,46 +29,61 @@ def calls(rng, count):
     return bytes(byte for _ in range(count) for byte in (rng.randrange(22), rng.randrange(4), rng.randrange(24), rng.randrange(4)))
 
 
-def timed(program, folder, data, rounds):
-    seconds, output = [], None
-    for _ in range(rounds):
+def output(program, folder, data):
+    return subprocess.run(program, cwd=folder, input=data, stdout=subprocess.PIPE, check=True).stdout
+
+
+def seconds(program, folder, path):
+    """One run on the calls of a file, its output thrown away."""
+    with open(path, "rb") as file:
         begun = time.perf_counter()
-        output = subprocess.run(program, cwd=folder, input=data, stdout=subprocess.PIPE, check=True).stdout
-        seconds.append(time.perf_counter() - begun)
-    return statistics.median(seconds), (max(seconds) - min(seconds)) / statistics.median(seconds), output
+        subprocess.run(program, cwd=folder, stdin=file, stdout=subprocess.DEVNULL, check=True)
+        return time.perf_counter() - begun
+
+
+def in_turns(folder, path, part):
+    """Rounds in which each program takes its turn, the model in the first ones; best and median of each."""
+    taken = {"proved": [], "plain": [], "model": []}
+    for k in range(ROUNDS):
+        taken["proved"].append(seconds(PROVED, folder, path))
+        taken["plain"].append(seconds(PLAIN, folder, path))
+        if k < MODEL_ROUNDS:
+            taken["model"].append(seconds(MODEL, folder, part) * CALLS / MODEL_CALLS)
+    return {name: (min(t), statistics.median(t)) for name, t in taken.items()}
+
+
+def ends_well(size, folder, data, expected):
+    """Whether the run program writes what is expected with a stack of that many KB."""
+    got = subprocess.run(["sh", "-c", "ulimit -s %d; exec \"$0\"" % size] + PROVED, cwd=folder, input=data, stdout=subprocess.PIPE,
+                         stderr=subprocess.DEVNULL, check=False)
+    return got.returncode == 0 and got.stdout == expected
 
 
 def stack(folder, data):
-    """The least stack, in KB, with which the run program still ends well on the data."""
-    expected = subprocess.run(PROVED, cwd=folder, input=data, stdout=subprocess.PIPE, check=True).stdout
-    for size in range(64, 1024, 8):
-        got = subprocess.run(["sh", "-c", "ulimit -s %d; exec \"$0\"" % size] + PROVED, cwd=folder, input=data, stdout=subprocess.PIPE,
-                             stderr=subprocess.DEVNULL, check=False)
-        if got.returncode == 0 and got.stdout == expected:
-            return size
-    return None
+    """The least stack, in KB, with which the run program ends well ten times; the system places it at random."""
+    expected = output(PROVED, folder, data)
+    return next((size for size in range(64, 1024, 8) if all(ends_well(size, folder, data, expected) for _ in range(10))), None)
 
 
-def main():
+def write(path, data):
+    with open(path, "wb") as file:
+        file.write(data)
+    return path
+
+
+def measured():
+    """Best and median of each program in seconds for all calls; the calls that were accepted; the stack. Ends where two outputs differ."""
     rng = random.Random(1)
-    folder = tempfile.mkdtemp(prefix="bench-")
-    with open(os.path.join(folder, "setup.bin"), "wb") as file:
-        file.write(setup(rng))
-    data = calls(rng, CALLS)
-    proved, noise, got = timed(PROVED, folder, data, ROUNDS)
-    plain, plain_noise, expected = timed(PLAIN, folder, data, ROUNDS)
-    if got != expected:
-        sys.exit("the run programs differ")
-    part = data[:MODEL_CALLS * 4]
-    slow, _, modelled = timed(MODEL, folder, part, 1)
-    if modelled != got[:len(modelled)]:
-        sys.exit("the model differs")
-    slow *= CALLS / MODEL_CALLS
-    accepted = sum(1 for line in got.split(b"\n") if line.split(b" ")[5:6] == [b"0"])
-    print("\nrun program, %d calls, %d accepted: proved %.3f s (%.0f calls/s, noise %.0f%%), plain C %.3f s (noise %.0f%%), model %.1f s" % (
-        CALLS, accepted, proved, CALLS / proved, 100 * noise, plain, 100 * plain_noise, slow))
-    print("ratios: proved to plain C %.1f, model to proved %.0f; stack of the proved one: %s KB" % (proved / plain, slow / proved, stack(folder, data[:400000])))
-
-
-if __name__ == "__main__":
-    main()
+    with tempfile.TemporaryDirectory(prefix="bench-") as folder:
+        write(os.path.join(folder, "setup.bin"), setup(rng))
+        data = calls(rng, CALLS)
+        part = data[:MODEL_CALLS * 4]
+        got = output(PROVED, folder, data)
+        if got != output(PLAIN, folder, data):
+            sys.exit("the run programs differ")
+        modelled = output(MODEL, folder, part)
+        if modelled != b"".join(line + b"\n" for line in got.split(b"\n")[:MODEL_CALLS]):
+            sys.exit("the model differs")
+        accepted = sum(1 for line in got.split(b"\n") if line.split(b" ")[5:6] == [b"0"])
+        times = in_turns(folder, write(os.path.join(folder, "calls"), data), write(os.path.join(folder, "part"), part))
+        return times, accepted, stack(folder, data[:400000])

@@ -31,7 +31,7 @@ extern "C" {
 #define HV_OBJECTS 128
 #define HV_SETUP_MOST 1160
 
-/* The bytes that a line of hv_put_block has at most, and `short`. */
+/* The bytes that a line of hv_put_block and hv_put_block_at has at most, and `short`. */
 #define HV_LINE_MOST 49
 #define HV_SHORT_MOST 6
 
@@ -162,12 +162,15 @@ bool hv_holds(const uint8_t *setup, size_t setup_length, const uint8_t *calls, s
  * more no call is made. [blockText, facilityAfter, lines/Printed] */
 hv_printed hv_put_block(hv_facility f, uint64_t first, const uint8_t *calls, size_t calls_length, uint8_t *out, size_t out_length);
 
+/* The same on a facility where it is, which becomes the facility after them; the padding stays. How many bytes the lines have. */
+size_t hv_put_block_at(hv_facility *f, uint64_t first, const uint8_t *calls, size_t calls_length, uint8_t *out, size_t out_length);
+
 /* A user, a process, an object; all fields are 0 for a number that is none. [userOf, processOf, objectOf, state/State] */
 hv_user_record hv_user(hv_facility f, uint8_t user);
 hv_process_record hv_process(hv_facility f, uint8_t process);
 hv_object_record hv_object(hv_facility f, uint8_t object);
 
-/* How a process has an object open; 0 for a number that is none. [openMarks, hvozdalka/Numbers] */
+/* How a process has an object open: 1 for reading, 2 for writing, 3 for both, else 0; 0 for a number that is none. [openMarks, hvozdalka/Numbers] */
 uint8_t hv_open_marks(hv_facility f, uint8_t process, uint8_t object);
 
 /* Switches and counters. [summaryOf, hvozdalka/Numbers] */

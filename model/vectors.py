@@ -559,7 +559,7 @@ def expected_lines(number, setup, calls):
     if facility is None:
         return ["case %d" % number] + lines
     fresh = model.read_setup(setup)[2]
-    same = "same" if model.setup_bytes(fresh) == setup else "untouched"
+    same = "same" if model.setup_bytes(fresh) == setup else "touched"
     lines = ["case %d" % number, "0 %d %s" % (len(model.setup_bytes(fresh)), same),
              "18 0 untouched"] + lines
     entered = len(facility.objects)

@@ -1,4 +1,5 @@
-/* Checks that hvozdalka.h and the library agree: the sizes and offsets of each struct, and each field by its value through the library. */
+/* Checks that hvozdalka.h and the library agree: the sizes and offsets of each struct, each field by its value through the library, and that
+ * a call on the bytes of a facility where it is does what the call by value does, so that both take each field from the same place. */
 #include <stddef.h>
 #include <stdio.h>
 #include <stdlib.h>
@@ -79,7 +80,7 @@ static void fields(hv_facility f)
     for (int p = 0; p < 40; p++)
         for (int t = 0; t < 136; t++) {
             int is = p < HV_PROCESSES && t < HV_OBJECTS;
-            expect(hv_open_marks(f, (uint8_t)p, (uint8_t)t) == (is ? f.opens[p * HV_OBJECTS + t] : 0), "open", p * 256 + t);
+            expect(hv_open_marks(f, (uint8_t)p, (uint8_t)t) == (is ? f.opens[p * HV_OBJECTS + t] & 3 : 0), "open", p * 256 + t);
         }
     hv_summary_record s = hv_summary(f);
     expect(s.mac == f.mac && s.fc == f.fc && s.sim == f.sim, "switches", 0);
@@ -98,6 +99,84 @@ static void handed_back(hv_facility f)
     expect(e.outcome.number == HV_NO_REQUEST && e.outcome.combined == HV_NOT_CARED && e.outcome.object == HV_NO_OBJECT, "outcome", 0);
 }
 
+static uint8_t below(int n)
+{
+    return (uint8_t)((rand() >> 7) % n);
+}
+
+static void each_below(uint8_t *bytes, size_t n, int limit)
+{
+    for (size_t i = 0; i < n; i++)
+        bytes[i] = below(limit);
+}
+
+/* A facility in which most numbers mean something, so that calls are decided by each field. */
+static hv_facility likely(void)
+{
+    hv_facility f;
+    each_below((uint8_t *)&f, sizeof f, 256);
+    each_below(&f.mac, 1, 2);
+    each_below(&f.fc, 1, 2);
+    each_below(&f.sim, 1, 2);
+    f.users = (uint8_t)(HV_USERS - below(4));
+    each_below(f.clearances, sizeof f.clearances, 16);
+    each_below(f.roles, sizeof f.roles, 3);
+    each_below(f.trusts, sizeof f.trusts, 2);
+    f.entered = (uint8_t)(HV_OBJECTS - below(8));
+    each_below(f.lives, sizeof f.lives, 2);
+    each_below(f.kinds, sizeof f.kinds, 4);
+    each_below(f.levels, sizeof f.levels, 17);
+    each_below(f.categories, sizeof f.categories, 4);
+    each_below(f.datatypes, sizeof f.datatypes, 2);
+    each_below(f.runnings, sizeof f.runnings, 2);
+    each_below(f.owners, sizeof f.owners, HV_USERS);
+    each_below(f.currents, sizeof f.currents, 16);
+    each_below(f.readmarks, sizeof f.readmarks, 16);
+    each_below(f.writemarks, sizeof f.writemarks, 16);
+    each_below(f.automatics, sizeof f.automatics, 2);
+    each_below(f.opens, sizeof f.opens, 4);
+    for (int t = 0; t < HV_OBJECTS; t++) {
+        if (f.levels[t] == 16) f.levels[t] = HV_UNSET;
+        if (f.categories[t] == 3) f.categories[t] = HV_UNSET;
+    }
+    return f;
+}
+
+/* The same calls by value and where the facility is: outcome and facility are the same, and the padding stays. */
+static void both_ways(hv_facility f)
+{
+    enum { PADDING = offsetof(hv_facility, opens) + sizeof f.opens };
+    hv_facility g = f;
+    for (int k = 0; k < 4000; k++) {
+        uint8_t c[4] = {below(23), below(34), below(130), below(18)};
+        hv_outcome q = hv_query_at(&g, c[0], c[1], c[2], c[3]);
+        hv_outcome o = hv_enforce_at(&g, c[0], c[1], c[2], c[3]);
+        hv_enforced e = hv_enforce(f, c[0], c[1], c[2], c[3]);
+        expect(memcmp(&o, &e.outcome, sizeof o) == 0 && memcmp(&q, &o, sizeof o) == 0, "outcome both ways, request", c[0]);
+        expect(memcmp(&g, &e.facility, PADDING) == 0 && g.refusals == e.facility.refusals, "facility both ways, request", c[0]);
+        expect(memcmp((uint8_t *)&g + PADDING, (uint8_t *)&f + PADDING, offsetof(hv_facility, refusals) - PADDING) == 0, "padding", c[0]);
+        f = g;
+    }
+}
+
+/* The lines of a block of calls by value and where the facility is, also where the buffer is too short for them. */
+static void blocks(hv_facility f)
+{
+    enum { CALLS = 200, PADDING = offsetof(hv_facility, opens) + sizeof f.opens };
+    static uint8_t calls[CALLS * 4 + 3], out[2][CALLS * HV_LINE_MOST + HV_SHORT_MOST];
+    for (size_t k = 0; k < sizeof calls; k++) calls[k] = below(k % 4 == 2 ? 130 : 24);
+    for (size_t room = sizeof out[0]; room > 0; room /= 7) {
+        size_t length = sizeof calls - below(4);
+        uint64_t first = below(2) ? 1 : (UINT64_C(1) << 63) - 1 + below(2);
+        hv_facility g = f;
+        memset(out, 0, sizeof out);
+        hv_printed p = hv_put_block(f, first, calls, length, out[0], room);
+        size_t n = hv_put_block_at(&g, first, calls, length, out[1], room);
+        expect(n == p.length && memcmp(out[0], out[1], sizeof out[0]) == 0, "lines both ways, room", (int)room);
+        expect(memcmp(&g, &p.facility, PADDING) == 0 && g.refusals == p.facility.refusals, "facility after a block, room", (int)room);
+    }
+}
+
 int main(void)
 {
     srand(1);
@@ -107,6 +186,8 @@ int main(void)
             ((uint8_t *)&f)[i] = (uint8_t)(rand() >> 7);
         fields(f);
         handed_back(f);
+        both_ways(likely());
+        blocks(likely());
     }
     printf("layout: %d checks, %d differ\n", checks, failures);
     return failures != 0;

@@ -18,7 +18,7 @@ use Rattle.rules.specs.declared.Request.the-variants.{Login, Clone, SendSignal,
 use Rattle.rules.specs.declared.OpenChange.{OpenChange}
 use Rattle.rules.specs.declared.OpenChange.the-variants.{Keep, Add, Close, CloseAll}
 use Rattle.rules.specs.declared.View.{View}
-use Rattle.rules.specs.Flow.{Above, Cleared}
+use Rattle.rules.specs.Flow.{Above, loginsBy, Cleared}
 use Rattle.rules.specs.Effects.{openBy, effectFrom}
 use Rattle.rules.specs.Calls.{accepted, afterRefusal, after, run, trustedLogins}
 use Rattle.rules.specs.Requests.{requestOf, inDirectory, openChange}
@@ -42,10 +42,11 @@ OnlyWhenReplayed =
     → (a b : ℕ) → holds setup (callsOf calls) b a ≡ true → b ≢ a
     → Above (labelOf (replayed setup calls) b) (labelOf (replayed setup calls) a)
 
--- bytes of calls without a trusted login by whose replay b comes to hold the matter of a
-pub record CarriesBytes (setup : List ℕ) (a b : ℕ) : Type 0 where
+-- bytes of calls without a trusted login, whose logins are u's, by whose replay b comes to hold the matter of a
+pub record CarriesBytes (setup : List ℕ) (u a b : ℕ) : Type 0 where
   pub calls : List ℕ
   pub bytes : allBytes calls ≡ true
+  pub logins : loginsBy u (callsOf calls) ≡ true
   pub untrusted : trustedLogins (fresh setup) (callsOf calls) ≡ false
   pub holding : holds setup (callsOf calls) b a ≡ true
 
@@ -55,7 +56,7 @@ ExactlyWhenReplayed =
     (setup : List ℕ) → on (fresh setup .mac) ≡ true → on (fresh setup .fc) ≡ false → on (fresh setup .sim) ≡ false
     → (a b : ℕ) → a < fresh setup .entered → b < fresh setup .entered → (objectOf (fresh setup) a) .kind ≢ 2
     → (u : ℕ) → Cleared setup u a b
-    → CarriesBytes setup a b ↔ (labelOf (fresh setup) a ⊑ labelOf (fresh setup) b)
+    → CarriesBytes setup u a b ↔ (labelOf (fresh setup) a ⊑ labelOf (fresh setup) b)
 
 -- no call changes a switch
 open-mac : (o : OpenChange) (f : Facility) (p t : ℕ) → (openBy o f p t) .mac ≡ f .mac
@@ -102,13 +103,20 @@ only-when-replayed setup calls m h a b held n =
 pub exactly-when-replayed : ExactlyWhenReplayed
 exactly-when-replayed setup m fc sim a b ha hb na u C =
     let E = exactly-when setup m fc sim a b ha hb na u C in (
-      (λ W. E .0 (record { calls = callsOf (W .calls); four = calls-four (W .calls) (W .bytes); untrusted = W .untrusted; holding = W .holding })),
+      (λ W. E .0 (record {
+        calls = callsOf (W .calls);
+        four = calls-four (W .calls) (W .bytes);
+        logins = W .logins;
+        untrusted = W .untrusted;
+        holding = W .holding;
+      })),
       (λ h.
           let W = E .1 h in
           let e = calls-back (W .calls) in
           record {
             calls = callBytes (W .calls);
             bytes = four-bytes (W .calls) (W .four);
+            logins = rw e (W .logins);
             untrusted = rw e (W .untrusted);
             holding = subst⁻¹ (λ (cs : List Call). holds setup cs b a ≡ true) e (W .holding);
           }),

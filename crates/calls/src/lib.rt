@@ -1,19 +1,18 @@
 // Query, enforce, replay and the account of matter.
-ghost use Prim.Native.Nat.{_+_, _*_, _≤_, _<_};
+ghost use Prim.Native.Nat.{_+_, _<_};
 ghost use mathlib.Core.Path.{_≡_};
 ghost use mathlib.Core.Bool.{cond, not};
-ghost use lib.ListN.{length};
 ghost use lib.Dec.{eqb};
 ghost use Rattle.calls.specs.Listed.{callFrom};
 ghost use Rattle.calls.specs.Replayed.{replayed};
-ghost use Rattle.calls.specs.Parts.{afterNumber, lateNumber, objectNumber, outcomeIn, processNumber};
+ghost use Rattle.calls.specs.Parts.{afterNumber, lateNumber, laterNumber, objectNumber, outcomeBy, outcomeIn, processNumber};
 ghost use Rattle.matter.specs.Whole.{ledgerOf};
-ghost use Rattle.rules.specs.Calls.{afterRefusal, enforce, query};
+ghost use Rattle.rules.specs.Calls.{enforce, query};
 ghost use Rattle.rules.specs.Lines.{callsOf};
 ghost use Rattle.rules.specs.Matter.{holds};
-ghost use Rattle.rules.specs.Modules.{viewOf};
-ghost use Rattle.rules.specs.Questions.{inRange, isFree, isRunning, numberBy, openFor, roomFor};
-ghost use Rattle.rules.specs.Requests.{isClone, isCreate, isLogin, isSendSignal, isSetLevel};
+ghost use Rattle.rules.specs.Modules.{answers, viewOf};
+ghost use Rattle.rules.specs.Questions.{inRange, isFree, isRunning, openFor, roomFor};
+ghost use Rattle.rules.specs.Requests.{isClone, isCreate, isLogin, isSendSignal, isSetLevel, requestOf};
 ghost use Rattle.state.specs.Tests.{_and_, ask, asked};
 use matter::Ledger;
 use rules::Enforced;
@@ -25,18 +24,11 @@ use state::Call;
 use state::Facility;
 use state::Outcome;
 
-// Where the marks of process p on object t stand.
-fn place(p: u8, t: u8) -> usize
-    ensures { λ r. ⌜ r ≡ p * 128 + t ⌝ }
-{
-    (p as usize) * 128 + (t as usize)
-}
-
 // What a call looks at. The arrays are lent to the readers, so that they are not copied.
 pub fn view_of(f: Facility, c: Call) -> View
     ensures { λ r. ⌜ r ≡ viewOf f c ⌝ }
 {
-    let i = place(c.process, c.target);
+    let i = state::mark_place(c.process, c.target) as usize;
     let p = c.process as usize;
     let t = c.target as usize;
     let caller = state::process_at(
@@ -95,49 +87,22 @@ fn or_number(yes: bool, number: u8, later: u8) -> u8
     if yes { later } else { number }
 }
 
-fn is_login(k: Request) -> bool
-    ensures { λ r. ⌜ r ≡ isLogin k ⌝ }
+fn is_login(request: u8) -> bool
+    ensures { λ r. ⌜ r ≡ isLogin (requestOf request) ⌝ }
 {
-    match k {
-        Request::Login => true,
-        Request::Clone => false,
-        Request::SendSignal => false,
-        Request::SetLevel => false,
-        Request::Terminate => false,
-        Request::Create => false,
-        Request::OnObject => false,
-        Request::Unknown => false,
-    }
+    request == 21
 }
 
-fn is_clone(k: Request) -> bool
-    ensures { λ r. ⌜ r ≡ isClone k ⌝ }
+fn is_clone(request: u8) -> bool
+    ensures { λ r. ⌜ r ≡ isClone (requestOf request) ⌝ }
 {
-    match k {
-        Request::Login => false,
-        Request::Clone => true,
-        Request::SendSignal => false,
-        Request::SetLevel => false,
-        Request::Terminate => false,
-        Request::Create => false,
-        Request::OnObject => false,
-        Request::Unknown => false,
-    }
+    request == 2
 }
 
-fn is_send_signal(k: Request) -> bool
-    ensures { λ r. ⌜ r ≡ isSendSignal k ⌝ }
+fn is_send_signal(request: u8) -> bool
+    ensures { λ r. ⌜ r ≡ isSendSignal (requestOf request) ⌝ }
 {
-    match k {
-        Request::Login => false,
-        Request::Clone => false,
-        Request::SendSignal => true,
-        Request::SetLevel => false,
-        Request::Terminate => false,
-        Request::Create => false,
-        Request::OnObject => false,
-        Request::Unknown => false,
-    }
+    request == 16
 }
 
 fn is_set_level(k: Request) -> bool
@@ -155,50 +120,35 @@ fn is_set_level(k: Request) -> bool
     }
 }
 
-fn is_create(k: Request) -> bool
-    ensures { λ r. ⌜ r ≡ isCreate k ⌝ }
-{
-    match k {
-        Request::Login => false,
-        Request::Clone => false,
-        Request::SendSignal => false,
-        Request::SetLevel => false,
-        Request::Terminate => false,
-        Request::Create => true,
-        Request::OnObject => false,
-        Request::Unknown => false,
-    }
-}
-
 // Question 2.
-pub fn in_range(k: Request, v: View, c: Call) -> bool
-    ensures { λ r. ⌜ r ≡ inRange k v c ⌝ }
+fn in_range(v: View, c: Call) -> bool
+    ensures { λ r. ⌜ r ≡ inRange (requestOf (c .request)) v c ⌝ }
 {
-    let clone = only_if(is_clone(k), c.target < 32);
-    let signal = only_if(is_send_signal(k), c.target < 32);
+    let clone = only_if(is_clone(c.request), c.target < 32);
+    let signal = only_if(is_send_signal(c.request), c.target < 32);
     (c.process < 32) & (clone & signal)
 }
 
 // Question 3.
-pub fn is_running(k: Request, v: View, c: Call) -> bool
-    ensures { λ r. ⌜ r ≡ isRunning k v c ⌝ }
+fn is_running(v: View, c: Call) -> bool
+    ensures { λ r. ⌜ r ≡ isRunning (requestOf (c .request)) v c ⌝ }
 {
-    let caller = only_if(!is_login(k), v.caller.running == 1);
-    let receiver = only_if(is_send_signal(k), v.receiver.running == 1);
+    let caller = only_if(!is_login(c.request), v.caller.running == 1);
+    let receiver = only_if(is_send_signal(c.request), v.receiver.running == 1);
     caller & receiver
 }
 
 // Question 4.
-pub fn is_free(k: Request, v: View, c: Call) -> bool
-    ensures { λ r. ⌜ r ≡ isFree k v c ⌝ }
+fn is_free(v: View, c: Call) -> bool
+    ensures { λ r. ⌜ r ≡ isFree (requestOf (c .request)) v c ⌝ }
 {
-    let login = only_if(is_login(k), !(v.caller.running == 1));
-    let clone = only_if(is_clone(k), !(v.receiver.running == 1));
+    let login = only_if(is_login(c.request), !(v.caller.running == 1));
+    let clone = only_if(is_clone(c.request), !(v.receiver.running == 1));
     login & clone
 }
 
 // Open in the mode of the request.
-pub fn open_for(v: View, c: Call) -> bool
+fn open_for(v: View, c: Call) -> bool
     ensures { λ r. ⌜ r ≡ openFor v c ⌝ }
 {
     let reads = state::reading(v.opens);
@@ -213,10 +163,10 @@ pub fn open_for(v: View, c: Call) -> bool
 }
 
 // Question 10.
-pub fn room_for(k: Request, v: View, c: Call) -> bool
+fn room_for(k: Request, v: View, c: Call) -> bool
     ensures { λ r. ⌜ r ≡ roomFor k v c ⌝ }
 {
-    only_if(is_create(k), v.entered < 128)
+    only_if(decide::is_create(k), v.entered < 128)
 }
 
 // Questions 10 to 13; `combined` is the modules' combined answer.
@@ -240,48 +190,60 @@ fn object_number(k: Request, v: View, c: Call, later: u8) -> u8
     let n9 = or_number(only_if(target, open), 9, later);
     let n7 = or_number(only_if(target, !decide::is_absent(class)), 7, n9);
     let n6 = or_number(only_if(target, v.object.live == 1), 6, n7);
-    or_number(only_if(is_create(k), c.extra <= 3), 8, n6)
+    or_number(only_if(decide::is_create(k), c.extra <= 3), 8, n6)
 }
 
 // Questions 1 to 5, and then the later ones.
-fn process_number(k: Request, v: View, c: Call, later: u8) -> u8
-    ensures { λ r. ⌜ r ≡ processNumber k v c later ⌝ }
+pub fn process_number(v: View, c: Call, later: u8) -> u8
+    ensures { λ r. ⌜ r ≡ processNumber (requestOf (c .request)) v c later ⌝ }
 {
-    let n5 = or_number(only_if(is_login(k), c.extra < v.users), 5, later);
-    let n4 = or_number(is_free(k, v, c), 4, n5);
-    let n3 = or_number(is_running(k, v, c), 3, n4);
-    let n2 = or_number(in_range(k, v, c), 2, n3);
+    let n5 = or_number(only_if(is_login(c.request), c.extra < v.users), 5, later);
+    let n4 = or_number(is_free(v, c), 4, n5);
+    let n3 = or_number(is_running(v, c), 3, n4);
+    let n2 = or_number(in_range(v, c), 2, n3);
     or_number(c.request <= 21, 1, n2)
-}
-
-// The number of a call whose modules' answers are known.
-fn number_after(k: Request, v: View, c: Call, combined: Answer) -> u8
-    ensures { λ r. ⌜ r ≡ processNumber k v c (objectNumber k v c (lateNumber k v c combined)) ⌝ }
-{
-    let late = late_number(k, v, c, combined);
-    let middle = object_number(k, v, c, late);
-    process_number(k, v, c, middle)
 }
 
 // The object number that an accepted create gives, 255 with every other call.
 fn object_given(number: u8, k: Request, entered: u8) -> u8
     ensures { λ r. ⌜ r ≡ cond (eqb number 0 and isCreate k) entered 255 ⌝ }
 {
-    if (number == 0) & is_create(k) {
+    if (number == 0) & decide::is_create(k) {
         return entered;
     }
     255
 }
 
-// What a call comes to, by what it looks at.
-pub fn outcome_in(v: View, c: Call) -> Outcome
-    ensures { λ r. ⌜ r ≡ outcomeIn v c ⌝ }
+// What a call comes to that no question before the tenth refuses.
+fn judged(k: Request, v: View, c: Call) -> Outcome
+    ensures { λ r. ⌜ r ≡ outcomeBy (lateNumber k v c (answers k v c .combined)) k v c ⌝ }
 {
-    let k = decide::request_of(c.request);
     let answers = decide::answers(k, v, c);
     let combined = answers.combined;
-    let number = number_after(k, v, c, combined);
+    let number = late_number(k, v, c, combined);
     Outcome::of(number, answers, object_given(number, k, v.entered))
+}
+
+// What a call comes to that no question before the sixth refuses. The modules are asked only where no question before the tenth does.
+pub fn outcome_later(k: Request, v: View, c: Call) -> Outcome
+    ensures { λ r. ⌜ r ≡ outcomeBy (laterNumber k v c) k v c ⌝ }
+{
+    let number = object_number(k, v, c, 0);
+    if number != 0 {
+        return Outcome::Refused { number };
+    }
+    judged(k, v, c)
+}
+
+// What a call comes to, by what it looks at.
+fn outcome_in(v: View, c: Call) -> Outcome
+    ensures { λ r. ⌜ r ≡ outcomeIn v c ⌝ }
+{
+    let number = process_number(v, c, 0);
+    if number != 0 {
+        return Outcome::Refused { number };
+    }
+    outcome_later(decide::request_of(c.request), v, c)
 }
 
 // What enforce would give; nothing changes.

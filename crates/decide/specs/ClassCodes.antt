@@ -1,14 +1,13 @@
 -- The codes of classes in the constant table: 0 absent, 1 R, 2 W, 3 B, 4 N.
-use Prim.Native.Nat.{ℕ, _+_, _*_, _/_, _%_, _≤_, _<_}
-use mathlib.Core.Path.{_≡_, refl, _∙_, ap₂}
+use Prim.Native.Nat.{ℕ, zero, suc, _+_, _*_, _/_, _%_, _^_, _≤_, _<_}
+use mathlib.Core.Path.{_≡_, refl, sym, _∙_, ap₂}
 use mathlib.Core.Logic.{_≢_}
 use mathlib.Core.Bool.{Bool, true, cond}
 use mathlib.Core.List.{List, [], _∷_}
 use lib.Dec.{leb, eqb}
-use lib.ListN.{length, getD}
 use native.Mathlib.Omega.{arith}
 use borrow.Author.Tests.{leb-true, eqb-true, ne-eqb}
-use Rattle.state.specs.Tests.{_and_, and-l, and-r, by-test}
+use Rattle.state.specs.Tests.{_and_, at, and-l, and-r, by-test}
 use Rattle.rules.specs.declared.Class.{Class}
 use Rattle.rules.specs.declared.Class.the-variants.{Absent, Reads, Writes, Both, NoCondition}
 use Rattle.rules.specs.Requests.{lastRequest, Listed, files, directories, channels, controlData, listOf, classAmong, classOf}
@@ -66,13 +65,30 @@ no-kind r kind h =
     let d : kind ≢ 3 = omega arith in
     rw (ne-eqb kind 0 a, ne-eqb kind 1 b, ne-eqb kind 2 c, ne-eqb kind 3 d)
 
--- The one computed test: each entry of a table is the code of its request and kind.
-abbrev pub right : ℕ → ℕ → Bool
-right i x = eqb x (classCode (classOf (i / 4) (i % 4)))
+-- the words of the constant table: two for each kind, three bits for each request
+unfoldable pub classWords : List ℕ
+classWords = 2689024 ∷ 41943244 ∷ 73728 ∷ 4194817 ∷ 67586 ∷ 8388804 ∷ 19478413328 ∷ 0 ∷ []
 
-pub coded : (table : List ℕ) → every right 0 table ≡ true → (r kind : ℕ) → kind < 4 → r * 4 + kind < length table
-    → getD table (r * 4 + kind) 0 ≡ classCode (classOf r kind)
-coded table t r kind b h =
+abbrev pub codeIn : ℕ → ℕ → ℕ
+codeIn r kind = at classWords (kind * 2 + r / 12) / 2 ^ (r % 12 * 3) % 8
+
+-- The one computed test: each three bits of the table are the code of their request and kind.
+abbrev right : ℕ → ℕ → Bool
+right i x = eqb (codeIn (i / 4) (i % 4)) (classCode (classOf (i / 4) (i % 4)))
+
+abbrev zeros : ℕ → List ℕ
+zeros zero = []
+zeros (suc n) = 0 ∷ zeros n
+
+table-right : every right 0 (zeros 96) ≡ true
+unfolding classWords _and_ classOf listOf classAmong files directories channels controlData
+table-right = refl
+
+pub coded : (r kind : ℕ) → r < 24 → kind < 4 → codeIn r kind ≡ classCode (classOf r kind)
+coded r kind a b =
     let q : (r * 4 + kind) / 4 ≡ r = omega arith in
     let m : (r * 4 + kind) % 4 ≡ kind = omega arith in
-    eqb-true _ _ (entry right table t (r * 4 + kind) h) ∙ ap₂ (λ (x y : ℕ). classCode (classOf x y)) q m
+    let h : r * 4 + kind < 96 = omega arith in
+    ap₂ (λ (x y : ℕ). codeIn x y) (sym q) (sym m)
+    ∙ eqb-true _ _ (entry right (zeros 96) table-right (r * 4 + kind) h)
+    ∙ ap₂ (λ (x y : ℕ). classCode (classOf x y)) q m

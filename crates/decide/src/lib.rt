@@ -1,10 +1,15 @@
 // The rules of document 01 as functions on scalars: classes, the modules' answers and MAC's moves.
 ghost use Prim.Native.Nat.{_+_, _*_, _<_};
+ghost use mathlib.Core.Bool.{false};
 ghost use mathlib.Core.Path.{_≡_};
-ghost use Rattle.decide.specs.ClassCodes.{classCode, classNamed};
+ghost use Rattle.decide.specs.ClassCodes.{classCode, classNamed, classWords};
+ghost use Rattle.decide.specs.OtherRequests.{isOnObject};
 ghost use Rattle.rules.specs.Effects.{created, effectFrom, openBy};
-ghost use Rattle.rules.specs.Modules.{answers, classIn, fcAnswer, fcRule, levelled, macAnswer, macClass, macObject, macRule, macSignal, mayRead, maySet, mayWrite, moveBy, moved, setLevel, simAnswer, simRule};
-ghost use Rattle.rules.specs.Requests.{alters, classOf, inDirectory, isAbsent, isNoCondition, needsObject, openChange, requestOf};
+ghost use Rattle.rules.specs.Modules.{answers, classIn, fcAnswer, fcRule, levelled, macAnswer, macClass, macObject, macRule, macSignal, mayRead, maySet};
+ghost use Rattle.rules.specs.Modules.{mayWrite, moveBy, moved, setLevel, simAnswer, simRule};
+ghost use Rattle.state.specs.State.{putProcess};
+ghost use Rattle.state.specs.Tests.{at};
+ghost use Rattle.rules.specs.Requests.{alters, classOf, inDirectory, isAbsent, isCreate, isNoCondition, needsObject, openChange, requestOf};
 use rules::Class;
 use rules::OpenChange;
 use rules::Request;
@@ -18,104 +23,47 @@ use state::Object;
 use state::Process;
 use state::User;
 
-// Class codes by request and kind: 0 absent, 1 R, 2 W, 3 B, 4 N. A row for each request, in it file, directory, channel, control data.
-const CLASSES: [u8; 88] = [
-    0,
-    0,
-    2,
-    0, // 0 alter
-    0,
-    0,
-    0,
-    2, // 1 change-owner
-    0,
-    0,
-    0,
-    0, // 2 clone
-    4,
-    0,
-    4,
-    0, // 3 close
-    0,
-    2,
-    0,
-    0, // 4 create
-    2,
-    2,
-    2,
-    2, // 5 delete
-    2,
-    0,
-    0,
-    0, // 6 delete-data
-    1,
-    0,
-    0,
-    0, // 7 execute
-    0,
-    0,
-    0,
-    1, // 8 get-permissions-data
-    0,
-    0,
-    0,
-    1, // 9 get-status-data
-    0,
-    0,
-    0,
-    2, // 10 modify-access-data
-    0,
-    0,
-    0,
-    2, // 11 modify-permissions-data
-    4,
-    1,
-    4,
-    0, // 12 read
-    1,
-    0,
-    0,
-    0, // 13 read-open
-    3,
-    0,
-    3,
-    0, // 14 read&write-open
-    0,
-    1,
-    0,
-    0, // 15 search
-    0,
-    0,
-    0,
-    0, // 16 send-signal
-    0,
-    0,
-    0,
-    0, // 17 set-level
-    0,
-    0,
-    0,
-    0, // 18 terminate
-    4,
-    2,
-    4,
-    0, // 19 write
-    2,
-    0,
-    0,
-    0, // 20 write-open
-    0,
-    0,
-    0,
-    0, // 21 login
+// Class codes by kind and request: 0 absent, 1 R, 2 W, 3 B, 4 N. Two octal words for each kind, of requests 0 to 11 and 12 to 23, the
+// first request last. A word of constants costs nothing to read, where an array of 96 bytes is built anew at each use.
+const CLASSES: [u64; 8] = [
+    // file: 3 N, 5 W, 6 W, 7 R; 12 N, 13 R, 14 B, 19 N, 20 W
+    0o0000_1220_4000,
+    0o0002_4000_0314,
+    // directory: 4 W, 5 W; 12 R, 15 R, 19 W
+    0o0000_0022_0000,
+    0o0000_2000_1001,
+    // channel: 0 W, 3 N, 5 W; 12 N, 14 B, 19 N
+    0o0000_0020_4002,
+    0o0000_4000_0304,
+    // control data: 1 W, 5 W, 8 R, 9 R, 10 W, 11 W
+    0o2211_0020_0020,
+    0o0000_0000_0000,
 ];
 
+// A word of the table. Each arm names its word, so that no array is built.
+fn word_of(i: u8) -> u64
+    requires { ⌜ i < 8 ⌝ }
+    ensures { λ r. ⌜ r ≡ at classWords i ⌝ }
+{
+    match i {
+        0 => CLASSES[0],
+        1 => CLASSES[1],
+        2 => CLASSES[2],
+        3 => CLASSES[3],
+        4 => CLASSES[4],
+        5 => CLASSES[5],
+        6 => CLASSES[6],
+        _ => CLASSES[7],
+    }
+}
+
 fn code_at(request: u8, kind: u8) -> u8
-    requires { ⌜ (request < 22) × (kind < 4) ⌝ }
+    requires { ⌜ (request < 24) × (kind < 4) ⌝ }
     ensures { λ r. ⌜ r ≡ classCode (classOf request kind) ⌝ }
 {
-    let i = (request as usize) * 4 + (kind as usize);
-    CLASSES[i]
+    let word = word_of(kind * 2 + request / 12);
+    let place = ((request % 12) as u64) * 3;
+    ((word >> place) % 8) as u8
 }
 
 fn class_named(code: u8) -> Class
@@ -140,7 +88,7 @@ fn class_named(code: u8) -> Class
 pub fn class_of(request: u8, kind: u8) -> Class
     ensures { λ r. ⌜ r ≡ classOf request kind ⌝ }
 {
-    if 22 <= request {
+    if 24 <= request {
         return Class::Absent;
     }
     if 4 <= kind {
@@ -174,7 +122,7 @@ pub fn is_no_condition(k: Class) -> bool
 }
 
 // Class W or B.
-pub fn alters(k: Class) -> bool
+fn alters(k: Class) -> bool
     ensures { λ r. ⌜ r ≡ alters k ⌝ }
 {
     match k {
@@ -190,6 +138,9 @@ pub fn alters(k: Class) -> bool
 pub fn request_of(request: u8) -> Request
     ensures { λ r. ⌜ r ≡ requestOf request ⌝ }
 {
+    if 22 <= request {
+        return Request::Unknown;
+    }
     match request {
         2 => Request::Clone,
         4 => Request::Create,
@@ -197,8 +148,37 @@ pub fn request_of(request: u8) -> Request
         17 => Request::SetLevel,
         18 => Request::Terminate,
         21 => Request::Login,
-        22..=255 => Request::Unknown,
         _ => Request::OnObject,
+    }
+}
+
+pub fn is_create(k: Request) -> bool
+    ensures { λ r. ⌜ r ≡ isCreate k ⌝ }
+{
+    match k {
+        Request::Login => false,
+        Request::Clone => false,
+        Request::SendSignal => false,
+        Request::SetLevel => false,
+        Request::Terminate => false,
+        Request::Create => true,
+        Request::OnObject => false,
+        Request::Unknown => false,
+    }
+}
+
+fn is_on_object(k: Request) -> bool
+    ensures { λ r. ⌜ r ≡ isOnObject k ⌝ }
+{
+    match k {
+        Request::Login => false,
+        Request::Clone => false,
+        Request::SendSignal => false,
+        Request::SetLevel => false,
+        Request::Terminate => false,
+        Request::Create => false,
+        Request::OnObject => true,
+        Request::Unknown => false,
     }
 }
 
@@ -213,16 +193,7 @@ pub fn in_directory(kind: u8) -> bool
 pub fn needs_object(k: Request, extra: u8) -> bool
     ensures { λ r. ⌜ r ≡ needsObject k extra ⌝ }
 {
-    match k {
-        Request::Login => false,
-        Request::Clone => false,
-        Request::SendSignal => false,
-        Request::SetLevel => false,
-        Request::Terminate => false,
-        Request::Create => in_directory(extra),
-        Request::OnObject => true,
-        Request::Unknown => false,
-    }
+    is_on_object(k) | (is_create(k) & in_directory(extra))
 }
 
 // What a request on an object does to the opens.
@@ -240,7 +211,7 @@ pub fn open_change(request: u8) -> OpenChange
 }
 
 // MAC's rule for R: l is the object's label, clr the clearance of the process's owner.
-pub fn may_read(l: Label, r: Process, clr: Label) -> bool
+fn may_read(l: Label, r: Process, clr: Label) -> bool
     ensures { λ x. ⌜ x ≡ mayRead l r clr ⌝ }
 {
     let below = l.at_most(r.current);
@@ -249,7 +220,7 @@ pub fn may_read(l: Label, r: Process, clr: Label) -> bool
 }
 
 // MAC's rule for W and B.
-pub fn may_write(l: Label, r: Process, clr: Label) -> bool
+fn may_write(l: Label, r: Process, clr: Label) -> bool
     ensures { λ x. ⌜ x ≡ mayWrite l r clr ⌝ }
 {
     let held = l.same(r.current);
@@ -259,7 +230,7 @@ pub fn may_write(l: Label, r: Process, clr: Label) -> bool
 }
 
 // MAC's rule for set-level.
-pub fn may_set(l: Label, r: Process, clr: Label) -> bool
+fn may_set(l: Label, r: Process, clr: Label) -> bool
     ensures { λ x. ⌜ x ≡ maySet l r clr ⌝ }
 {
     let low = r.readmark;
@@ -267,7 +238,7 @@ pub fn may_set(l: Label, r: Process, clr: Label) -> bool
 }
 
 // MAC by class, for an untrusted owner.
-pub fn mac_class(k: Class, l: Label, r: Process, clr: Label) -> Answer
+fn mac_class(k: Class, l: Label, r: Process, clr: Label) -> Answer
     ensures { λ x. ⌜ x ≡ macClass k l r clr ⌝ }
 {
     match k {
@@ -280,7 +251,7 @@ pub fn mac_class(k: Class, l: Label, r: Process, clr: Label) -> Answer
 }
 
 // MAC on an object: undefined where its level is unset, granted to a trusted owner, else by class.
-pub fn mac_object(k: Class, o: Object, r: Process, u: User) -> Answer
+fn mac_object(k: Class, o: Object, r: Process, u: User) -> Answer
     ensures { λ x. ⌜ x ≡ macObject k o r u ⌝ }
 {
     let l = o.label;
@@ -294,7 +265,7 @@ pub fn mac_object(k: Class, o: Object, r: Process, u: User) -> Answer
 }
 
 // MAC on send-signal.
-pub fn mac_signal(r: Process, u: User, receiver: Process) -> Answer
+fn mac_signal(r: Process, u: User, receiver: Process) -> Answer
     ensures { λ x. ⌜ x ≡ macSignal r u receiver ⌝ }
 {
     let here = r.current;
@@ -303,7 +274,7 @@ pub fn mac_signal(r: Process, u: User, receiver: Process) -> Answer
 }
 
 // FC on an object.
-pub fn fc_rule(o: Object, u: User) -> Answer
+fn fc_rule(o: Object, u: User) -> Answer
     ensures { λ x. ⌜ x ≡ fcRule o u ⌝ }
 {
     if o.category == 255 {
@@ -313,7 +284,7 @@ pub fn fc_rule(o: Object, u: User) -> Answer
 }
 
 // SIM on an object.
-pub fn sim_rule(request: u8, k: Class, o: Object, u: User) -> Answer
+fn sim_rule(request: u8, k: Class, o: Object, u: User) -> Answer
     ensures { λ x. ⌜ x ≡ simRule request k o u ⌝ }
 {
     let changes = alters(k) | (request == 19);
@@ -324,7 +295,7 @@ pub fn sim_rule(request: u8, k: Class, o: Object, u: User) -> Answer
 }
 
 // MAC's move of a process by class, on an object with label l.
-pub fn move_by(k: Class, l: Label, r: Process) -> Process
+fn move_by(k: Class, l: Label, r: Process) -> Process
     ensures { λ x. ⌜ x ≡ moveBy k l r ⌝ }
 {
     match k {
@@ -362,7 +333,7 @@ fn after_both(l: Label, mut r: Process) -> Process
 }
 
 // The process after set-level.
-pub fn set_level(l: Label, mut r: Process) -> Process
+fn set_level(l: Label, mut r: Process) -> Process
     ensures { λ x. ⌜ x ≡ setLevel l r ⌝ }
 {
     r.current = l;
@@ -384,23 +355,15 @@ fn mac_target(v: View, c: Call) -> Answer
     mac_object(class_in(v, c), v.object, v.caller, v.owner)
 }
 
-fn mac_create(v: View, c: Call) -> Answer
-    ensures { λ x. ⌜ x ≡ macRule Request.Create v c ⌝ }
-{
-    if in_directory(c.extra) {
-        return mac_target(v, c);
-    }
-    Answer::Granted
-}
-
 fn mac_set_level(v: View, c: Call) -> Answer
     ensures { λ x. ⌜ x ≡ macRule Request.SetLevel v c ⌝ }
 {
     Answer::grant(may_set(Label::of(c.extra), v.caller, v.owner.clearance))
 }
 
-// MAC's rule, by what a request acts on.
-pub fn mac_rule(k: Request, v: View, c: Call) -> Answer
+// MAC's rule for a request that needs no object.
+fn mac_without_object(k: Request, v: View, c: Call) -> Answer
+    requires { ⌜ needsObject k (c .extra) ≡ false ⌝ }
     ensures { λ x. ⌜ x ≡ macRule k v c ⌝ }
 {
     match k {
@@ -409,14 +372,24 @@ pub fn mac_rule(k: Request, v: View, c: Call) -> Answer
         Request::SendSignal => mac_signal(v.caller, v.owner, v.receiver),
         Request::SetLevel => mac_set_level(v, c),
         Request::Terminate => Answer::Granted,
-        Request::Create => mac_create(v, c),
-        Request::OnObject => mac_target(v, c),
+        Request::Create => Answer::Granted,
+        Request::OnObject => Answer::NotGranted,
         Request::Unknown => Answer::NotGranted,
     }
 }
 
+// MAC's rule.
+fn mac_rule(k: Request, v: View, c: Call) -> Answer
+    ensures { λ x. ⌜ x ≡ macRule k v c ⌝ }
+{
+    if needs_object(k, c.extra) {
+        return mac_target(v, c);
+    }
+    mac_without_object(k, v, c)
+}
+
 // The answers of the modules: one that is off does not care.
-pub fn mac_answer(k: Request, v: View, c: Call) -> Answer
+fn mac_answer(k: Request, v: View, c: Call) -> Answer
     ensures { λ x. ⌜ x ≡ macAnswer k v c ⌝ }
 {
     if v.mac == 1 {
@@ -425,7 +398,7 @@ pub fn mac_answer(k: Request, v: View, c: Call) -> Answer
     Answer::NotCared
 }
 
-pub fn fc_answer(k: Request, v: View, c: Call) -> Answer
+fn fc_answer(k: Request, v: View, c: Call) -> Answer
     ensures { λ x. ⌜ x ≡ fcAnswer k v c ⌝ }
 {
     let target = needs_object(k, c.extra);
@@ -435,7 +408,7 @@ pub fn fc_answer(k: Request, v: View, c: Call) -> Answer
     Answer::NotCared
 }
 
-pub fn sim_answer(k: Request, v: View, c: Call) -> Answer
+fn sim_answer(k: Request, v: View, c: Call) -> Answer
     ensures { λ x. ⌜ x ≡ simAnswer k v c ⌝ }
 {
     let target = needs_object(k, c.extra);
@@ -485,23 +458,23 @@ pub fn created(r: Process, kind: u8) -> Object
     }
 }
 
-// What a request on an object does to the opens.
-pub fn open_by(change: OpenChange, f: Facility, p: u8, t: u8) -> Facility
-    ensures { λ x. ⌜ x ≡ openBy change f p t ⌝ }
+// What a request on an object does: process p becomes r, and the opens change.
+fn open_by(change: OpenChange, f: Facility, p: u8, r: Process, t: u8) -> Facility
+    ensures { λ x. ⌜ x ≡ openBy change (putProcess f p r) p t ⌝ }
 {
     match change {
-        OpenChange::Keep => f,
-        OpenChange::Add(modes) => f.opened(p, t, modes),
-        OpenChange::Close => f.closed(p, t),
-        OpenChange::CloseAll => f.deleted(t),
+        OpenChange::Keep => f.with_process(p, r),
+        OpenChange::Add(modes) => f.opened(p, r, t, modes),
+        OpenChange::Close => f.closed(p, r, t),
+        OpenChange::CloseAll => f.with_process(p, r).deleted(t),
     }
 }
 
 fn effect_on_object(f: Facility, v: View, c: Call) -> Facility
     ensures { λ x. ⌜ x ≡ effectFrom Request.OnObject f v c ⌝ }
 {
-    let g = f.with_process(c.process, moved(v, c));
-    open_by(open_change(c.request), g, c.process, c.target)
+    let r = moved(v, c);
+    open_by(open_change(c.request), f, c.process, r, c.target)
 }
 
 fn effect_create(f: Facility, v: View, c: Call) -> Facility

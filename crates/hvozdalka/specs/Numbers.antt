@@ -1,16 +1,12 @@
 -- Outcomes as C is given them: the paper's numbers.
-use Prim.Native.Nat.{ℕ, _+_, _*_, _≤_, _<_}
+use Prim.Native.Nat.{ℕ}
 use mathlib.Core.Path.{_≡_, sym, _∙_, ap}
-use mathlib.Core.Bool.{cond}
-use lib.Dec.{ltb}
-use borrow.Author.Tests.{lt-ltb, le-ltb}
 use Rattle.state.specs.declared.Call.{Call}
 use Rattle.state.specs.declared.Facility.{Facility}
 use Rattle.state.specs.declared.Outcome.{Outcome}
 use Rattle.state.specs.declared.SetupOutcome.{SetupOutcome}
 use Rattle.state.specs.declared.WriteOutcome.{WriteOutcome}
-use Rattle.state.specs.Tests.{at}
-use Rattle.state.specs.State.{mostObjects, place}
+use Rattle.state.specs.State.{opensOf, addModes}
 use Rattle.state.specs.Answers.{code}
 use Rattle.state.specs.Outcomes.{numberOf, answersOf, objectNumberOf, setupNumber, setupIndex, writeNumber, writeLength}
 use Rattle.rules.specs.declared.Enforced.{Enforced}
@@ -51,21 +47,15 @@ abbrev pub summaryOf : Facility → Summary
 summaryOf f = record { refusals = f .refusals; mac = f .mac; fc = f .fc; sim = f .sim; users = f .users; entered = f .entered }
 
 -- the same from an outcome that is known
-pub reading-is : (r q : Reading) (o : SetupOutcome) → r ≡ q → r .outcome ≡ o → record { facility = r .facility; number = setupNumber o; index = setupIndex o } ≡ readingNumbers q
+pub reading-is : (r q : Reading) (o : SetupOutcome) → r ≡ q → r .outcome ≡ o
+    → record { facility = r .facility; number = setupNumber o; index = setupIndex o } ≡ readingNumbers q
 reading-is r q o e d =
-    sym (ap (λ (x : SetupOutcome). record { facility = r .facility; number = setupNumber x; index = setupIndex x }) d) ∙ ap (λ (x : Reading). readingNumbers x) e
+    sym (ap (λ (x : SetupOutcome). record { facility = r .facility; number = setupNumber x; index = setupIndex x }) d)
+    ∙ ap (λ (x : Reading). readingNumbers x) e
 
 pub writing-is : (w v o : WriteOutcome) → w ≡ v → w ≡ o → writingNumbers o ≡ writingNumbers v
 writing-is w v o e d = ap (λ (x : WriteOutcome). writingNumbers x) (sym d ∙ e)
 
--- how process p has object t open: 1 for reading, 2 for writing, 3 for both; 0 for a number that is none
+-- how process p has object t open: 1 for reading, 2 for writing, 3 for both, else 0, whatever other bits the byte has
 unfoldable pub openMarks : Facility → ℕ → ℕ → ℕ
-openMarks f p t = cond (ltb t mostObjects) (at (f .opens) (place p t)) 0
-
-pub marks-of : (f : Facility) (p t : ℕ) → t < mostObjects → at (f .opens) (p * 128 + t) ≡ openMarks f p t
-unfolding openMarks
-marks-of f p t h = rw (lt-ltb t mostObjects h)
-
-pub marks-none : (f : Facility) (p t : ℕ) → mostObjects ≤ t → 0 ≡ openMarks f p t
-unfolding openMarks
-marks-none f p t h = rw (le-ltb t mostObjects h)
+openMarks f p t = addModes (opensOf f p t) 0

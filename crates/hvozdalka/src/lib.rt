@@ -141,7 +141,7 @@ pub extern "C" fn hv_query(
 // What enforce would answer, of a facility that is read where it is.
 #[no_mangle]
 pub extern "C" fn hv_query_at(
-    f: &[u8; 4988],
+    f: &[u8; in_place::SIZE],
     request: u8,
     process: u8,
     target: u8,
@@ -185,7 +185,7 @@ pub extern "C" fn hv_enforce(
 // A call on a facility where it is: its bytes become those of the facility after the call, and the padding stays.
 #[no_mangle]
 pub extern "C" fn hv_enforce_at(
-    f: &mut [u8; 4988],
+    f: &mut [u8; in_place::SIZE],
     request: u8,
     process: u8,
     target: u8,
@@ -228,6 +228,20 @@ pub extern "C" fn hv_put_block(f: Facility, first: u64, calls: &[u8], out: &mut 
     lines::put_block(f, first, calls, out)
 }
 
+// The same on a facility where it is: its bytes become those of the facility after the block, and the padding stays. How many bytes the lines have.
+#[no_mangle]
+pub extern "C" fn hv_put_block_at(
+    f: &mut [u8; in_place::SIZE],
+    first: u64,
+    calls: &[u8],
+    out: &mut [u8],
+) -> usize
+    ensures { λ r. ⌜ Stored (now (out .entry)) 0 (blockText first (facilityAt (now (f .entry))) (now (calls .entry))) (now (out .exit)) r ⌝ }
+    ensures { λ r. ⌜ Becomes (now (f .entry)) (now (f .exit)) (facilityAfter first (facilityAt (now (f .entry))) (now (calls .entry))) ⌝ }
+{
+    lines::put_block_in(f, first, calls, out)
+}
+
 // A user, a process and an object by their numbers; one that is none has all fields 0.
 #[no_mangle]
 pub extern "C" fn hv_user(f: Facility, u: u8) -> User
@@ -255,10 +269,8 @@ pub extern "C" fn hv_object(f: Facility, t: u8) -> Object
 pub extern "C" fn hv_open_marks(f: Facility, p: u8, t: u8) -> u8
     ensures { λ r. ⌜ r ≡ openMarks f p t ⌝ }
 {
-    if 128 <= t {
-        return 0;
-    }
-    state::at(&f.opens, (p as usize) * 128 + (t as usize))
+    let marks = state::at(&f.opens, state::mark_place(p, t) as usize);
+    state::add_modes(marks, 0)
 }
 
 // Switches and counters.

@@ -1,8 +1,8 @@
 -- The bytes of a facility, as `include/hvozdalka.h` lays them out: where each field stands, and the facility that they are.
 use Prim.Native.Nat.{ℕ, zero, suc, _+_, _*_, _≤_, _<_}
-use mathlib.Core.Path.{_≡_, sym, _∙_, ap}
+use mathlib.Core.Path.{_≡_, sym, _∙_}
 use mathlib.Core.List.{List, [], _∷_}
-use lib.ListN.{length, take, drop, length-take, List·getD-eq-default}
+use lib.ListN.{take, drop, length-take, List·getD-eq-default}
 use lib.Seq.{getD-take, getD-drop}
 use native.Mathlib.Omega.{arith}
 use Rattle.state.specs.declared.Facility.{Facility}
@@ -20,6 +20,77 @@ abbrev pub offset : ℕ → ℕ
 offset zero = 0
 offset (suc k) = offset k + size k
 
+-- the fields by name
+abbrev pub theMac : ℕ
+theMac = 0
+
+abbrev pub theFc : ℕ
+theFc = suc theMac
+
+abbrev pub theSim : ℕ
+theSim = suc theFc
+
+abbrev pub theUsers : ℕ
+theUsers = suc theSim
+
+abbrev pub theClearances : ℕ
+theClearances = suc theUsers
+
+abbrev pub theRoles : ℕ
+theRoles = suc theClearances
+
+abbrev pub theTrusts : ℕ
+theTrusts = suc theRoles
+
+abbrev pub theEntered : ℕ
+theEntered = suc theTrusts
+
+abbrev pub theLives : ℕ
+theLives = suc theEntered
+
+abbrev pub theKinds : ℕ
+theKinds = suc theLives
+
+abbrev pub theLevels : ℕ
+theLevels = suc theKinds
+
+abbrev pub theCategories : ℕ
+theCategories = suc theLevels
+
+abbrev pub theDatatypes : ℕ
+theDatatypes = suc theCategories
+
+abbrev pub theRunnings : ℕ
+theRunnings = suc theDatatypes
+
+abbrev pub theOwners : ℕ
+theOwners = suc theRunnings
+
+abbrev pub theCurrents : ℕ
+theCurrents = suc theOwners
+
+abbrev pub theReadmarks : ℕ
+theReadmarks = suc theCurrents
+
+abbrev pub theWritemarks : ℕ
+theWritemarks = suc theReadmarks
+
+abbrev pub theAutomatics : ℕ
+theAutomatics = suc theWritemarks
+
+abbrev pub theOpens : ℕ
+theOpens = suc theAutomatics
+
+abbrev pub thePadding : ℕ
+thePadding = suc theOpens
+
+abbrev pub theRefusals : ℕ
+theRefusals = suc thePadding
+
+-- the bytes of a facility
+abbrev pub wholeSize : ℕ
+wholeSize = offset (suc theRefusals)
+
 -- n bytes from a place on
 abbrev pub part : List ℕ → ℕ → ℕ → List ℕ
 part s from n = take n (drop from s)
@@ -36,27 +107,27 @@ fourBytes l = at l 0 + 256 * at l 1 + 65536 * at l 2 + 16777216 * at l 3
 abbrev pub facilityOf : (ℕ → List ℕ) → Facility
 facilityOf g =
     record {
-      mac = at (g 0) 0;
-      fc = at (g 1) 0;
-      sim = at (g 2) 0;
-      users = at (g 3) 0;
-      clearances = g 4;
-      roles = g 5;
-      trusts = g 6;
-      entered = at (g 7) 0;
-      lives = g 8;
-      kinds = g 9;
-      levels = g 10;
-      categories = g 11;
-      datatypes = g 12;
-      runnings = g 13;
-      owners = g 14;
-      currents = g 15;
-      readmarks = g 16;
-      writemarks = g 17;
-      automatics = g 18;
-      opens = g 19;
-      refusals = fourBytes (g 21);
+      mac = at (g theMac) 0;
+      fc = at (g theFc) 0;
+      sim = at (g theSim) 0;
+      users = at (g theUsers) 0;
+      clearances = g theClearances;
+      roles = g theRoles;
+      trusts = g theTrusts;
+      entered = at (g theEntered) 0;
+      lives = g theLives;
+      kinds = g theKinds;
+      levels = g theLevels;
+      categories = g theCategories;
+      datatypes = g theDatatypes;
+      runnings = g theRunnings;
+      owners = g theOwners;
+      currents = g theCurrents;
+      readmarks = g theReadmarks;
+      writemarks = g theWritemarks;
+      automatics = g theAutomatics;
+      opens = g theOpens;
+      refusals = fourBytes (g theRefusals);
     }
 
 -- the facility of bytes

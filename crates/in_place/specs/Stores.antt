@@ -1,17 +1,17 @@
 -- Stores into the bytes of a facility: each changes one field.
-use Prim.Native.Nat.{ℕ, zero, suc, _+_, _*_, _-_, _≤_, _<_, min}
+use Prim.Native.Nat.{ℕ, zero, suc, _+_, _-_, _≤_, _<_}
 use mathlib.Core.Path.{_≡_, refl, sym, _∙_, ap, fun-ext}
 use mathlib.Core.Logic.{_≢_}
-use mathlib.Core.Bool.{true, false, cond}
-use mathlib.Core.List.{List, [], _∷_}
+use mathlib.Core.Bool.{cond}
+use mathlib.Core.List.{List}
 use lib.Dec.{ltb, eqb}
-use lib.ListN.{length, set, take, drop, length-set, length-take, length-drop}
+use lib.ListN.{length, set, drop, length-set, length-take, length-drop}
 use lib.Seq.{set-out, getD-set-same, getD-set-other, ext-getD}
 use native.Mathlib.Omega.{arith}
 use borrow.Author.Tests.{eq-eqb, ne-eqb, ltb-true, ltb-false, lt-ltb, le-ltb}
 use Rattle.state.specs.declared.Facility.{Facility}
 use Rattle.state.specs.Tests.{at, by-test, by-eq}
-use Rattle.in_place.specs.Layout.{sizes, size, offset, part, fieldOf, facilityOf, facilityAt, byte-in}
+use Rattle.in_place.specs.Layout.{size, offset, part, fieldOf, facilityAt, byte-in, theEntered, theLives, theOpens, thePadding}
 
 -- byte i of the n bytes from a place on becomes v; nothing where there is no such byte
 unfoldable pub storeIn : List ℕ → ℕ → ℕ → ℕ → ℕ → List ℕ
@@ -29,6 +29,10 @@ pub store-short : (s : List ℕ) (from n i v : ℕ) → length s ≤ from + i �
 unfolding storeIn
 store-short s from n i v h =
     by-test (ltb i n) (λ t. rw t (sym (set-out s (from + i) v h))) (λ t. rw t)
+
+pub length-store : (s : List ℕ) (from n i v : ℕ) → length (storeIn s from n i v) ≡ length s
+unfolding storeIn
+length-store s from n i v = by-test (ltb i n) (λ t. rw t (length-set s (from + i) v)) (λ t. rw t)
 
 -- a part of the bytes after a store within it, and outside it
 length-part : (s : List ℕ) (q v from n : ℕ) → length (part (set s q v) from n) ≡ length (part s from n)
@@ -70,7 +74,7 @@ apart : (j d : ℕ) → offset j + size j ≤ offset (suc j + d)
 apart j zero = let e : suc j + 0 ≡ suc j = omega arith in rw e (omega arith)
 apart j (suc d) = let e : suc j + suc d ≡ suc (suc j + d) = omega arith in let h = apart j d in rw e (omega arith)
 
-before : (j k : ℕ) → j < k → offset j + size j ≤ offset k
+pub before : (j k : ℕ) → j < k → offset j + size j ≤ offset k
 before j k h = let e : suc j + (k - suc j) ≡ k = omega arith in rw e at (apart j (k - suc j))
 
 -- the fields with one store
@@ -102,20 +106,20 @@ stored s m g k i v e h =
 
 -- bytes that become those of a facility; the padding stays
 abbrev pub padding : List ℕ → List ℕ
-padding s = fieldOf s 20
+padding s = fieldOf s thePadding
 
 abbrev pub Becomes : List ℕ → List ℕ → Facility → Type 0
 Becomes s m f = (facilityAt m ≡ f) × (padding m ≡ padding s)
 
 -- a store among the marks, the flags of live objects and the count of objects keeps the padding
-pub padding-marks : (s m : List ℕ) (i v : ℕ) → m ≡ storeIn s 885 4096 i v → padding m ≡ padding s
-padding-marks s m i v h = ap (λ (g : ℕ → List ℕ). g 20) (stored s m (fieldOf s) 19 i v refl h)
+pub padding-marks : (s m : List ℕ) (i v : ℕ) → m ≡ storeIn s (offset theOpens) (size theOpens) i v → padding m ≡ padding s
+padding-marks s m i v h = ap (λ (g : ℕ → List ℕ). g thePadding) (stored s m (fieldOf s) theOpens i v refl h)
 
-pub padding-live : (s m : List ℕ) (i v : ℕ) → m ≡ storeIn s 53 128 i v → padding m ≡ padding s
-padding-live s m i v h = ap (λ (g : ℕ → List ℕ). g 20) (stored s m (fieldOf s) 8 i v refl h)
+pub padding-live : (s m : List ℕ) (i v : ℕ) → m ≡ storeIn s (offset theLives) (size theLives) i v → padding m ≡ padding s
+padding-live s m i v h = ap (λ (g : ℕ → List ℕ). g thePadding) (stored s m (fieldOf s) theLives i v refl h)
 
-pub padding-entered : (s m : List ℕ) (i v : ℕ) → m ≡ storeIn s 52 1 i v → padding m ≡ padding s
-padding-entered s m i v h = ap (λ (g : ℕ → List ℕ). g 20) (stored s m (fieldOf s) 7 i v refl h)
+pub padding-entered : (s m : List ℕ) (i v : ℕ) → m ≡ storeIn s (offset theEntered) (size theEntered) i v → padding m ≡ padding s
+padding-entered s m i v h = ap (λ (g : ℕ → List ℕ). g thePadding) (stored s m (fieldOf s) theEntered i v refl h)
 
-pub padding-fields : (s m : List ℕ) (g : ℕ → List ℕ) → fieldOf m ≡ g → g 20 ≡ padding s → padding m ≡ padding s
-padding-fields s m g e h = ap (λ (x : ℕ → List ℕ). x 20) e ∙ h
+pub padding-fields : (s m : List ℕ) (g : ℕ → List ℕ) → fieldOf m ≡ g → g thePadding ≡ padding s → padding m ≡ padding s
+padding-fields s m g e h = ap (λ (x : ℕ → List ℕ). x thePadding) e ∙ h

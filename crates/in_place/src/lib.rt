@@ -1,11 +1,14 @@
-// The facility in the bytes of a C struct, read where they are. Every function is total: bytes past the end are 0.
+// The facility in the bytes of a C struct, where they are. The `pub` functions are total; the others ask for the length of a facility's bytes.
+ghost use Prim.Native.Nat.{_+_, _≤_};
 ghost use mathlib.Core.Path.{_≡_};
-ghost use lib.ListN.{length, set};
+ghost use lib.ListN.{length};
+ghost use lib.Seq.{sets};
 ghost use mathlib.Core.Logic.{_≢_};
-ghost use Rattle.in_place.specs.Layout.{facilityAt, fieldOf, part};
+ghost use Rattle.in_place.specs.Layout.{facilityAt, fieldOf, part, wholeSize};
 ghost use Rattle.in_place.specs.Changes.{storeObject};
 ghost use Rattle.in_place.specs.Stores.{Becomes, storeIn};
-ghost use Rattle.calls.specs.Parts.{afterNumber};
+ghost use Rattle.in_place.specs.Whole.{Fields, countsPut, objectsPut, processesPut, usersPut};
+ghost use Rattle.calls.specs.Parts.{afterNumber, briefOf, processNumber};
 ghost use Rattle.rules.specs.Calls.{after, query};
 ghost use Rattle.rules.specs.Effects.{effectFrom, openBy};
 ghost use Rattle.rules.specs.Modules.{viewOf};
@@ -13,80 +16,135 @@ ghost use Rattle.rules.specs.Requests.{requestOf};
 ghost use Rattle.rules.specs.declared.Request.{Request};
 ghost use Rattle.state.specs.Labels.{label};
 ghost use Rattle.state.specs.Loops.{clearColumn, clearRow, copyRow};
-ghost use Rattle.state.specs.State.{addObject, cloned, closeProcess, copyProcess, counted, deleted, objectOf, opened, opensOf, place, processOf, putOpens, putProcess, putRefusals, terminated, userOf};
+ghost use Rattle.state.specs.State.{addObject, cloned, closeProcess, copyProcess, counted, deleted, objectOf, objectsFrom, opened, opensOf, processOf};
+ghost use Rattle.state.specs.State.{processesFrom, putMarks, putOpens, putProcess, putRefusals, terminated, userOf, usersFrom};
+ghost use Rattle.state.specs.Views.{ObjectsShaped, ProcessesShaped, UsersShaped};
 ghost use Rattle.state.specs.Tests.{at};
 use rules::OpenChange;
 use rules::View;
 use state::Call;
+use state::Facility;
 use state::Label;
 use state::Object;
 use state::Outcome;
 use state::Process;
 use state::User;
 
-// Byte i of the n bytes from a place on.
+// Where each field of a facility stands: one behind the other, in the order of the struct.
+const MAC: u16 = 0;
+
+const FC: u16 = MAC + 1;
+
+const SIM: u16 = FC + 1;
+
+const USERS: u16 = SIM + 1;
+
+const CLEARANCES: u16 = USERS + 1;
+
+const ROLES: u16 = CLEARANCES + 16;
+
+const TRUSTS: u16 = ROLES + 16;
+
+const ENTERED: u16 = TRUSTS + 16;
+
+const LIVES: u16 = ENTERED + 1;
+
+const KINDS: u16 = LIVES + 128;
+
+const LEVELS: u16 = KINDS + 128;
+
+const CATEGORIES: u16 = LEVELS + 128;
+
+const DATATYPES: u16 = CATEGORIES + 128;
+
+const RUNNINGS: u16 = DATATYPES + 128;
+
+const OWNERS: u16 = RUNNINGS + 32;
+
+const CURRENTS: u16 = OWNERS + 32;
+
+const READMARKS: u16 = CURRENTS + 32;
+
+const WRITEMARKS: u16 = READMARKS + 32;
+
+const AUTOMATICS: u16 = WRITEMARKS + 32;
+
+const OPENS: u16 = AUTOMATICS + 32;
+// Three bytes of padding stand before the counter.
+const REFUSALS: u16 = OPENS + 4096 + 3;
+
+pub const SIZE: usize = (REFUSALS as usize) + 4;
+
+// Byte i of a field, which has n bytes from a place on; 0 where it has no such byte.
 fn byte_in(s: &[u8], from: u16, n: u16, i: u16) -> u8
+    requires { ⌜ (length (now s) ≡ wholeSize) × (from + n ≤ wholeSize) ⌝ }
     ensures { λ r. ⌜ r ≡ at (part (now (s .entry)) from n) i ⌝ }
 {
     if n <= i {
         return 0;
     }
-    state::at(s, (from as usize) + (i as usize))
+    s[(from as usize) + (i as usize)]
 }
 
 fn label_in(s: &[u8], from: u16, n: u16, i: u16) -> Label
+    requires { ⌜ (length (now s) ≡ wholeSize) × (from + n ≤ wholeSize) ⌝ }
     ensures { λ r. ⌜ r ≡ label (at (part (now (s .entry)) from n) i) ⌝ }
 {
     Label::of(byte_in(s, from, n, i))
 }
 
-pub fn process_in(s: &[u8], p: u8) -> Process
+fn process_in(s: &[u8], p: u8) -> Process
+    requires { ⌜ length (now s) ≡ wholeSize ⌝ }
     ensures { λ r. ⌜ r ≡ processOf (facilityAt (now (s .entry))) p ⌝ }
 {
     let i = p as u16;
     Process {
-        running: byte_in(s, 693, 32, i),
-        owner: byte_in(s, 725, 32, i),
-        current: label_in(s, 757, 32, i),
-        readmark: label_in(s, 789, 32, i),
-        writemark: label_in(s, 821, 32, i),
-        automatic: byte_in(s, 853, 32, i),
+        running: byte_in(s, RUNNINGS, 32, i),
+        owner: byte_in(s, OWNERS, 32, i),
+        current: label_in(s, CURRENTS, 32, i),
+        readmark: label_in(s, READMARKS, 32, i),
+        writemark: label_in(s, WRITEMARKS, 32, i),
+        automatic: byte_in(s, AUTOMATICS, 32, i),
     }
 }
 
-pub fn user_in(s: &[u8], u: u8) -> User
+fn user_in(s: &[u8], u: u8) -> User
+    requires { ⌜ length (now s) ≡ wholeSize ⌝ }
     ensures { λ r. ⌜ r ≡ userOf (facilityAt (now (s .entry))) u ⌝ }
 {
     let i = u as u16;
     User {
-        clearance: label_in(s, 4, 16, i),
-        role: byte_in(s, 20, 16, i),
-        trusted: byte_in(s, 36, 16, i),
+        clearance: label_in(s, CLEARANCES, 16, i),
+        role: byte_in(s, ROLES, 16, i),
+        trusted: byte_in(s, TRUSTS, 16, i),
     }
 }
 
-pub fn object_in(s: &[u8], t: u8) -> Object
+fn object_in(s: &[u8], t: u8) -> Object
+    requires { ⌜ length (now s) ≡ wholeSize ⌝ }
     ensures { λ r. ⌜ r ≡ objectOf (facilityAt (now (s .entry))) t ⌝ }
 {
     let i = t as u16;
     Object {
-        live: byte_in(s, 53, 128, i),
-        kind: byte_in(s, 181, 128, i),
-        label: label_in(s, 309, 128, i),
-        category: byte_in(s, 437, 128, i),
-        datatype: byte_in(s, 565, 128, i),
+        live: byte_in(s, LIVES, 128, i),
+        kind: byte_in(s, KINDS, 128, i),
+        label: label_in(s, LEVELS, 128, i),
+        category: byte_in(s, CATEGORIES, 128, i),
+        datatype: byte_in(s, DATATYPES, 128, i),
     }
 }
 
 // How process p has object t open.
 fn opens_in(s: &[u8], p: u8, t: u8) -> u8
+    requires { ⌜ length (now s) ≡ wholeSize ⌝ }
     ensures { λ r. ⌜ r ≡ opensOf (facilityAt (now (s .entry))) p t ⌝ }
 {
-    byte_in(s, 885, 4096, (p as u16) * 128 + (t as u16))
+    byte_in(s, OPENS, 4096, state::mark_place(p, t))
 }
 
 // What a call looks at.
-pub fn view_in(s: &[u8], c: Call) -> View
+fn view_in(s: &[u8], c: Call) -> View
+    requires { ⌜ length (now s) ≡ wholeSize ⌝ }
     ensures { λ r. ⌜ r ≡ viewOf (facilityAt (now (s .entry))) c ⌝ }
 {
     let caller = process_in(s, c.process);
@@ -94,11 +152,11 @@ pub fn view_in(s: &[u8], c: Call) -> View
     let receiver = process_in(s, c.target);
     let object = object_in(s, c.target);
     View {
-        mac: byte_in(s, 0, 1, 0),
-        fc: byte_in(s, 1, 1, 0),
-        sim: byte_in(s, 2, 1, 0),
-        users: byte_in(s, 3, 1, 0),
-        entered: byte_in(s, 52, 1, 0),
+        mac: byte_in(s, MAC, 1, 0),
+        fc: byte_in(s, FC, 1, 0),
+        sim: byte_in(s, SIM, 1, 0),
+        users: byte_in(s, USERS, 1, 0),
+        entered: byte_in(s, ENTERED, 1, 0),
         caller,
         owner,
         receiver,
@@ -107,11 +165,82 @@ pub fn view_in(s: &[u8], c: Call) -> View
     }
 }
 
-// What enforce would give.
-pub fn query_in(s: &[u8], c: Call) -> Outcome
+// What questions 1 to 5 look at: most refused calls need no more.
+fn brief_in(s: &[u8], c: Call) -> View
+    requires { ⌜ length (now s) ≡ wholeSize ⌝ }
+    ensures { λ r. ⌜ r ≡ briefOf (viewOf (facilityAt (now (s .entry))) c) ⌝ }
+{
+    let none = Label::of(0);
+    let runs = Process {
+        running: byte_in(s, RUNNINGS, 32, c.process as u16),
+        owner: 0,
+        current: none,
+        readmark: none,
+        writemark: none,
+        automatic: 0,
+    };
+    View {
+        mac: 0,
+        fc: 0,
+        sim: 0,
+        users: byte_in(s, USERS, 1, 0),
+        entered: 0,
+        caller: runs,
+        owner: User {
+            clearance: none,
+            role: 0,
+            trusted: 0,
+        },
+        receiver: Process {
+            running: byte_in(s, RUNNINGS, 32, c.target as u16),
+            owner: 0,
+            current: none,
+            readmark: none,
+            writemark: none,
+            automatic: 0,
+        },
+        object: Object {
+            live: 0,
+            kind: 0,
+            label: none,
+            category: 0,
+            datatype: 0,
+        },
+        opens: 0,
+    }
+}
+
+// The number by which one of the questions 1 to 5 refuses, or 0. After the two tests no later one asks whether the caller's number is one.
+fn first_number(s: &[u8], c: Call) -> u8
+    requires { ⌜ length (now s) ≡ wholeSize ⌝ }
+    ensures { λ r. ⌜ r ≡ processNumber (requestOf (c .request)) (viewOf (facilityAt (now (s .entry))) c) c 0 ⌝ }
+{
+    if 22 <= c.request {
+        return 1;
+    }
+    if 32 <= c.process {
+        return 2;
+    }
+    calls::process_number(brief_in(s, c), c, 0)
+}
+
+fn query(s: &[u8], c: Call) -> Outcome
+    requires { ⌜ length (now s) ≡ wholeSize ⌝ }
     ensures { λ r. ⌜ r ≡ query (facilityAt (now (s .entry))) c ⌝ }
 {
-    calls::outcome_in(view_in(s, c), c)
+    let number = first_number(s, c);
+    if number != 0 {
+        return Outcome::Refused { number };
+    }
+    let k = decide::request_of(c.request);
+    calls::outcome_later(k, view_in(s, c), c)
+}
+
+// What enforce would give.
+pub fn query_in(s: &[u8; SIZE], c: Call) -> Outcome
+    ensures { λ r. ⌜ r ≡ query (facilityAt (now (s .entry))) c ⌝ }
+{
+    query(s, c)
 }
 
 // Byte i of the n bytes from a place on becomes v; nothing where there is no such byte.
@@ -133,19 +262,19 @@ fn put_process(s: &mut [u8], p: u8, r: Process)
     ensures { λ x. ⌜ Becomes (now (s .entry)) (now (s .exit)) (putProcess (facilityAt (now (s .entry))) p r) ⌝ }
 {
     let i = p as u16;
-    put_in(s, 693, 32, i, r.running);
-    put_in(s, 725, 32, i, r.owner);
-    put_in(s, 757, 32, i, r.current.level);
-    put_in(s, 789, 32, i, r.readmark.level);
-    put_in(s, 821, 32, i, r.writemark.level);
-    put_in(s, 853, 32, i, r.automatic);
+    put_in(s, RUNNINGS, 32, i, r.running);
+    put_in(s, OWNERS, 32, i, r.owner);
+    put_in(s, CURRENTS, 32, i, r.current.level);
+    put_in(s, READMARKS, 32, i, r.readmark.level);
+    put_in(s, WRITEMARKS, 32, i, r.writemark.level);
+    put_in(s, AUTOMATICS, 32, i, r.automatic);
 }
 
 // The marks of process p on object t become v.
 fn put_marks(s: &mut [u8], p: u8, t: u8, v: u8)
-    ensures { λ x. ⌜ Becomes (now (s .entry)) (now (s .exit)) (putOpens (facilityAt (now (s .entry))) (set (facilityAt (now (s .entry)) .opens) (place p t) v)) ⌝ }
+    ensures { λ x. ⌜ Becomes (now (s .entry)) (now (s .exit)) (putMarks (facilityAt (now (s .entry))) p t v) ⌝ }
 {
-    put_in(s, 885, 4096, (p as u16) * 128 + (t as u16), v);
+    put_in(s, OPENS, 4096, state::mark_place(p, t), v);
 }
 
 // The marks of process p are cleared, one by one.
@@ -154,20 +283,20 @@ fn clear_row(s: &mut [u8], p: u8)
 {
     let mut k: u8 = 0;
     while k < 128 {
-        put_in(s, 885, 4096, (p as u16) * 128 + (k as u16), 0);
+        put_in(s, OPENS, 4096, (p as u16) * 128 + (k as u16), 0);
         k += 1;
     }
 }
 
 // The marks of process t become those of p.
 fn copy_row(s: &mut [u8], p: u8, t: u8)
-    requires { ⌜ p ≢ t ⌝ }
+    requires { ⌜ (length (now s) ≡ wholeSize) × (p ≢ t) ⌝ }
     ensures { λ x. ⌜ Becomes (now (s .entry)) (now (s .exit)) (putOpens (facilityAt (now (s .entry))) (copyRow (facilityAt (now (s .entry)) .opens) p t)) ⌝ }
 {
     let mut k: u8 = 0;
     while k < 128 {
         let v = opens_in(s, p, k);
-        put_in(s, 885, 4096, (t as u16) * 128 + (k as u16), v);
+        put_in(s, OPENS, 4096, (t as u16) * 128 + (k as u16), v);
         k += 1;
     }
 }
@@ -178,14 +307,14 @@ fn clear_column(s: &mut [u8], t: u8)
 {
     let mut k: u8 = 0;
     while k < 32 {
-        put_in(s, 885, 4096, (k as u16) * 128 + (t as u16), 0);
+        put_in(s, OPENS, 4096, (k as u16) * 128 + (t as u16), 0);
         k += 1;
     }
 }
 
 // All marks of process p are dropped.
 fn close_process(s: &mut [u8], p: u8)
-    requires { ⌜ length (now s) ≡ 4988 ⌝ }
+    requires { ⌜ length (now s) ≡ wholeSize ⌝ }
     ensures { λ x. ⌜ Becomes (now (s .entry)) (now (s .exit)) (putOpens (facilityAt (now (s .entry))) (closeProcess (facilityAt (now (s .entry)) .opens) p)) ⌝ }
 {
     if 32 <= p {
@@ -196,8 +325,9 @@ fn close_process(s: &mut [u8], p: u8)
 
 // Process t gets the marks of p.
 fn copy_process(s: &mut [u8], p: u8, t: u8)
-    requires { ⌜ length (now s) ≡ 4988 ⌝ }
-    ensures { λ x. ⌜ Becomes (now (s .entry)) (now (s .exit)) (putOpens (facilityAt (now (s .entry))) (copyProcess (facilityAt (now (s .entry)) .opens) p t)) ⌝ }
+    requires { ⌜ length (now s) ≡ wholeSize ⌝ }
+    ensures { λ x. ⌜ Becomes (now (s .entry)) (now (s .exit)) (putOpens (facilityAt (now (s .entry)))
+        (copyProcess (facilityAt (now (s .entry)) .opens) p t)) ⌝ }
 {
     if 32 <= t {
         return;
@@ -214,7 +344,7 @@ fn copy_process(s: &mut [u8], p: u8, t: u8)
 
 // Process p terminates.
 fn terminate(s: &mut [u8], p: u8)
-    requires { ⌜ length (now s) ≡ 4988 ⌝ }
+    requires { ⌜ length (now s) ≡ wholeSize ⌝ }
     ensures { λ x. ⌜ Becomes (now (s .entry)) (now (s .exit)) (terminated (facilityAt (now (s .entry))) p) ⌝ }
 {
     put_process(s, p, Process::none());
@@ -223,7 +353,7 @@ fn terminate(s: &mut [u8], p: u8)
 
 // Process t becomes a clone of p.
 fn clone(s: &mut [u8], p: u8, t: u8)
-    requires { ⌜ length (now s) ≡ 4988 ⌝ }
+    requires { ⌜ length (now s) ≡ wholeSize ⌝ }
     ensures { λ x. ⌜ Becomes (now (s .entry)) (now (s .exit)) (cloned (facilityAt (now (s .entry))) p t) ⌝ }
 {
     let r = process_in(s, p);
@@ -233,63 +363,64 @@ fn clone(s: &mut [u8], p: u8, t: u8)
 
 // Object t is deleted, with all opens on it.
 fn delete(s: &mut [u8], t: u8)
-    requires { ⌜ length (now s) ≡ 4988 ⌝ }
+    requires { ⌜ length (now s) ≡ wholeSize ⌝ }
     ensures { λ x. ⌜ Becomes (now (s .entry)) (now (s .exit)) (deleted (facilityAt (now (s .entry))) t) ⌝ }
 {
     if 128 <= t {
         return;
     }
     clear_column(s, t);
-    put_in(s, 53, 128, t as u16, 0);
+    put_in(s, LIVES, 128, t as u16, 0);
 }
 
 // The attributes of object i.
 fn put_object(s: &mut [u8], i: u16, o: Object)
     ensures { λ x. ⌜ fieldOf (now (s .exit)) ≡ storeObject (fieldOf (now (s .entry))) i o ⌝ }
 {
-    put_in(s, 53, 128, i, o.live);
-    put_in(s, 181, 128, i, o.kind);
-    put_in(s, 309, 128, i, o.label.level);
-    put_in(s, 437, 128, i, o.category);
-    put_in(s, 565, 128, i, o.datatype);
+    put_in(s, LIVES, 128, i, o.live);
+    put_in(s, KINDS, 128, i, o.kind);
+    put_in(s, LEVELS, 128, i, o.label.level);
+    put_in(s, CATEGORIES, 128, i, o.category);
+    put_in(s, DATATYPES, 128, i, o.datatype);
 }
 
 // The next object number is given to an object, where there is one.
 fn add_object(s: &mut [u8], o: Object)
-    requires { ⌜ length (now s) ≡ 4988 ⌝ }
+    requires { ⌜ length (now s) ≡ wholeSize ⌝ }
     ensures { λ x. ⌜ Becomes (now (s .entry)) (now (s .exit)) (addObject (facilityAt (now (s .entry))) o) ⌝ }
 {
-    let n = byte_in(s, 52, 1, 0);
+    let n = byte_in(s, ENTERED, 1, 0);
     if n < 128 {
         put_object(s, n as u16, o);
-        put_in(s, 52, 1, 0, n + 1);
+        put_in(s, ENTERED, 1, 0, n + 1);
     }
 }
 
 // The counter of refusals.
 fn refusals_in(s: &[u8]) -> u32
+    requires { ⌜ length (now s) ≡ wholeSize ⌝ }
     ensures { λ r. ⌜ r ≡ facilityAt (now (s .entry)) .refusals ⌝ }
 {
-    let b0 = byte_in(s, 4984, 4, 0) as u32;
-    let b1 = byte_in(s, 4984, 4, 1) as u32;
-    let b2 = byte_in(s, 4984, 4, 2) as u32;
-    let b3 = byte_in(s, 4984, 4, 3) as u32;
+    let b0 = byte_in(s, REFUSALS, 4, 0) as u32;
+    let b1 = byte_in(s, REFUSALS, 4, 1) as u32;
+    let b2 = byte_in(s, REFUSALS, 4, 2) as u32;
+    let b3 = byte_in(s, REFUSALS, 4, 3) as u32;
     b0 + 256 * b1 + 65536 * b2 + 16777216 * b3
 }
 
 fn put_refusals(s: &mut [u8], n: u32)
-    requires { ⌜ length (now s) ≡ 4988 ⌝ }
+    requires { ⌜ length (now s) ≡ wholeSize ⌝ }
     ensures { λ x. ⌜ Becomes (now (s .entry)) (now (s .exit)) (putRefusals (facilityAt (now (s .entry))) n) ⌝ }
 {
-    put_in(s, 4984, 4, 0, (n % 256) as u8);
-    put_in(s, 4984, 4, 1, (n / 256 % 256) as u8);
-    put_in(s, 4984, 4, 2, (n / 65536 % 256) as u8);
-    put_in(s, 4984, 4, 3, (n / 16777216) as u8);
+    put_in(s, REFUSALS, 4, 0, (n % 256) as u8);
+    put_in(s, REFUSALS, 4, 1, (n / 256 % 256) as u8);
+    put_in(s, REFUSALS, 4, 2, (n / 65536 % 256) as u8);
+    put_in(s, REFUSALS, 4, 3, (n / 16777216) as u8);
 }
 
 // One more refusal; at its stop the counter stays.
 fn count(s: &mut [u8])
-    requires { ⌜ length (now s) ≡ 4988 ⌝ }
+    requires { ⌜ length (now s) ≡ wholeSize ⌝ }
     ensures { λ x. ⌜ Becomes (now (s .entry)) (now (s .exit)) (counted (facilityAt (now (s .entry)))) ⌝ }
 {
     let n = refusals_in(s);
@@ -300,6 +431,7 @@ fn count(s: &mut [u8])
 
 // Process p opens object t in the modes.
 fn add_open(s: &mut [u8], p: u8, t: u8, modes: u8)
+    requires { ⌜ length (now s) ≡ wholeSize ⌝ }
     ensures { λ x. ⌜ Becomes (now (s .entry)) (now (s .exit)) (opened (facilityAt (now (s .entry))) p t modes) ⌝ }
 {
     let marks = opens_in(s, p, t);
@@ -308,7 +440,7 @@ fn add_open(s: &mut [u8], p: u8, t: u8, modes: u8)
 
 // What a request on an object does to the opens.
 fn open_by(change: OpenChange, s: &mut [u8], p: u8, t: u8)
-    requires { ⌜ length (now s) ≡ 4988 ⌝ }
+    requires { ⌜ length (now s) ≡ wholeSize ⌝ }
     ensures { λ x. ⌜ Becomes (now (s .entry)) (now (s .exit)) (openBy change (facilityAt (now (s .entry))) p t) ⌝ }
 {
     match change {
@@ -320,7 +452,7 @@ fn open_by(change: OpenChange, s: &mut [u8], p: u8, t: u8)
 }
 
 fn effect_on_object(s: &mut [u8], v: View, c: Call)
-    requires { ⌜ length (now s) ≡ 4988 ⌝ }
+    requires { ⌜ length (now s) ≡ wholeSize ⌝ }
     ensures { λ x. ⌜ Becomes (now (s .entry)) (now (s .exit)) (effectFrom Request.OnObject (facilityAt (now (s .entry))) v c) ⌝ }
 {
     let change = decide::open_change(c.request);
@@ -329,7 +461,7 @@ fn effect_on_object(s: &mut [u8], v: View, c: Call)
 }
 
 fn effect_create(s: &mut [u8], v: View, c: Call)
-    requires { ⌜ length (now s) ≡ 4988 ⌝ }
+    requires { ⌜ length (now s) ≡ wholeSize ⌝ }
     ensures { λ x. ⌜ Becomes (now (s .entry)) (now (s .exit)) (effectFrom Request.Create (facilityAt (now (s .entry))) v c) ⌝ }
 {
     if decide::in_directory(c.extra) {
@@ -344,7 +476,7 @@ fn effect_create(s: &mut [u8], v: View, c: Call)
 
 // What an accepted call does; v is what the call looks at.
 fn effect(s: &mut [u8], v: View, c: Call)
-    requires { ⌜ length (now s) ≡ 4988 ⌝ }
+    requires { ⌜ length (now s) ≡ wholeSize ⌝ }
     ensures { λ x. ⌜ Becomes (now (s .entry)) (now (s .exit)) (effectFrom (requestOf (c .request)) (facilityAt (now (s .entry))) v c) ⌝ }
 {
     let request = c.request;
@@ -362,7 +494,7 @@ fn effect(s: &mut [u8], v: View, c: Call)
 
 // The facility after a call with this number.
 fn after_number(number: u8, s: &mut [u8], v: View, c: Call)
-    requires { ⌜ length (now s) ≡ 4988 ⌝ }
+    requires { ⌜ length (now s) ≡ wholeSize ⌝ }
     ensures { λ x. ⌜ Becomes (now (s .entry)) (now (s .exit)) (afterNumber number (facilityAt (now (s .entry))) v c) ⌝ }
 {
     if number == 0 {
@@ -375,20 +507,137 @@ fn after_number(number: u8, s: &mut [u8], v: View, c: Call)
 }
 
 fn enforce(s: &mut [u8], c: Call) -> Outcome
-    requires { ⌜ length (now s) ≡ 4988 ⌝ }
+    requires { ⌜ length (now s) ≡ wholeSize ⌝ }
     ensures { λ r. ⌜ r ≡ query (facilityAt (now (s .entry))) c ⌝ }
     ensures { λ r. ⌜ Becomes (now (s .entry)) (now (s .exit)) (after (facilityAt (now (s .entry))) c) ⌝ }
 {
+    let number = first_number(s, c);
+    if number != 0 {
+        return Outcome::Refused { number };
+    }
+    let k = decide::request_of(c.request);
     let v = view_in(s, c);
-    let outcome = calls::outcome_in(v, c);
+    let outcome = calls::outcome_later(k, v, c);
     after_number(outcome.number(), s, v, c);
     outcome
 }
 
 // A call on a facility where it is: its bytes become those of the facility after the call.
-pub fn enforce_in(s: &mut [u8; 4988], c: Call) -> Outcome
+pub fn enforce_in(s: &mut [u8; SIZE], c: Call) -> Outcome
     ensures { λ r. ⌜ r ≡ query (facilityAt (now (s .entry))) c ⌝ }
     ensures { λ r. ⌜ Becomes (now (s .entry)) (now (s .exit)) (after (facilityAt (now (s .entry))) c) ⌝ }
 {
     enforce(s, c)
+}
+
+// The field that begins at a place gets the bytes of an array.
+fn put_array(s: &mut [u8], from: u16, array: &[u8])
+    ensures { λ x. ⌜ now (s .exit) ≡ sets (now (s .entry)) from (now (array .entry)) ⌝ }
+{
+    text::put_text(s, from as usize, array);
+}
+
+// The switches and the counts of users and objects.
+fn put_counts(s: &mut [u8], mac: u8, fc: u8, sim: u8, users: u8, entered: u8)
+    requires { ⌜ length (now s) ≡ wholeSize ⌝ }
+    ensures { λ x. ⌜ Fields (now (s .exit)) (countsPut (fieldOf (now (s .entry))) mac fc sim users entered) ⌝ }
+{
+    put_in(s, MAC, 1, 0, mac);
+    put_in(s, FC, 1, 0, fc);
+    put_in(s, SIM, 1, 0, sim);
+    put_in(s, USERS, 1, 0, users);
+    put_in(s, ENTERED, 1, 0, entered);
+}
+
+fn put_users<'a>(s: &mut [u8], clearances: &'a [u8], roles: &'a [u8], trusts: &'a [u8])
+    requires { ⌜ (length (now s) ≡ wholeSize) × UsersShaped (usersFrom (now clearances) (now roles) (now trusts)) ⌝ }
+    ensures { λ x. ⌜ Fields (now (s .exit)) (usersPut (fieldOf (now (s .entry)))
+        (usersFrom (now (clearances .entry)) (now (roles .entry)) (now (trusts .entry)))) ⌝ }
+{
+    put_array(s, CLEARANCES, clearances);
+    put_array(s, ROLES, roles);
+    put_array(s, TRUSTS, trusts);
+}
+
+fn put_objects<'a>(
+    s: &mut [u8],
+    lives: &'a [u8],
+    kinds: &'a [u8],
+    levels: &'a [u8],
+    categories: &'a [u8],
+    datatypes: &'a [u8],
+)
+    requires { ⌜ (length (now s) ≡ wholeSize) × ObjectsShaped (objectsFrom (now lives) (now kinds) (now levels) (now categories) (now datatypes)) ⌝ }
+    ensures { λ x. ⌜ Fields (now (s .exit)) (objectsPut (fieldOf (now (s .entry)))
+        (objectsFrom (now (lives .entry)) (now (kinds .entry)) (now (levels .entry)) (now (categories .entry)) (now (datatypes .entry)))) ⌝ }
+{
+    put_array(s, LIVES, lives);
+    put_array(s, KINDS, kinds);
+    put_array(s, LEVELS, levels);
+    put_array(s, CATEGORIES, categories);
+    put_array(s, DATATYPES, datatypes);
+}
+
+fn put_processes<'a>(
+    s: &mut [u8],
+    runnings: &'a [u8],
+    owners: &'a [u8],
+    currents: &'a [u8],
+    readmarks: &'a [u8],
+    writemarks: &'a [u8],
+    automatics: &'a [u8],
+)
+    requires { ⌜ (length (now s) ≡ wholeSize) × ProcessesShaped (processesFrom (now runnings) (now owners) (now currents) (now readmarks) (now writemarks)
+        (now automatics)) ⌝ }
+    ensures { λ x. ⌜ Fields (now (s .exit)) (processesPut (fieldOf (now (s .entry)))
+        (processesFrom (now (runnings .entry)) (now (owners .entry)) (now (currents .entry)) (now (readmarks .entry)) (now (writemarks .entry))
+        (now (automatics .entry)))) ⌝ }
+{
+    put_array(s, RUNNINGS, runnings);
+    put_array(s, OWNERS, owners);
+    put_array(s, CURRENTS, currents);
+    put_array(s, READMARKS, readmarks);
+    put_array(s, WRITEMARKS, writemarks);
+    put_array(s, AUTOMATICS, automatics);
+}
+
+// The bytes of a facility that is handed in by value.
+fn store(f: Facility, s: &mut [u8])
+    requires { ⌜ length (now s) ≡ wholeSize ⌝ }
+    ensures { λ x. ⌜ Becomes (now (s .entry)) (now (s .exit)) f ⌝ }
+{
+    put_counts(s, f.mac, f.fc, f.sim, f.users, f.entered);
+    put_users(s, &f.clearances, &f.roles, &f.trusts);
+    put_objects(
+        s,
+        &f.lives,
+        &f.kinds,
+        &f.levels,
+        &f.categories,
+        &f.datatypes,
+    );
+    put_processes(
+        s,
+        &f.runnings,
+        &f.owners,
+        &f.currents,
+        &f.readmarks,
+        &f.writemarks,
+        &f.automatics,
+    );
+    put_array(s, OPENS, &f.opens);
+    put_refusals(s, f.refusals);
+}
+
+pub fn store_in(f: Facility, s: &mut [u8; SIZE])
+    ensures { λ x. ⌜ Becomes (now (s .entry)) (now (s .exit)) f ⌝ }
+{
+    store(f, s);
+}
+
+// The process of a number.
+pub fn process_of(s: &[u8; SIZE], p: u8) -> Process
+    ensures { λ r. ⌜ r ≡ processOf (facilityAt (now (s .entry))) p ⌝ }
+{
+    process_in(s, p)
 }

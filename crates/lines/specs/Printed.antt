@@ -1,7 +1,8 @@
 -- The lines of a block of calls, and that the lines of all blocks together are the run program's output.
 use Rattle.state.specs.declared.Call.{Call}
 use Rattle.state.specs.declared.Facility.{Facility}
-use Rattle.rules.specs.declared.Enforced.{Enforced}
+use Rattle.state.specs.declared.Outcome.{Outcome}
+use Rattle.state.specs.declared.Process.{Process}
 use Prim.Native.Nat.{ℕ, suc, _+_, _*_, _/_, _%_, _≤_, _<_, min}
 use mathlib.Core.Path.{_≡_, refl, sym, _∙_, ap, subst}
 use mathlib.Core.Bool.{Bool, cond}
@@ -13,9 +14,10 @@ use native.Mathlib.Omega.{arith}
 use borrow.Author.Tests.{eq-eqb, ne-eqb, lt-ltb, le-ltb}
 use Rattle.calls.specs.Listed.{callFrom, calls-more, run-more, no-calls, run-done}
 use Rattle.lines.specs.Texts.{lineText, line-is}
-use Rattle.rules.specs.Calls.{after, run, enforce}
+use Rattle.rules.specs.Calls.{query, after, run}
 use Rattle.rules.specs.Lines.{callLine, callsOf, callLines, shortLine}
 use Rattle.rules.specs.Text.{ascii}
+use Rattle.state.specs.State.{processIn, processOf}
 use Rattle.state.specs.Tests.{at, by-eq}
 use Rattle.text.specs.Stored.{Stored, then, as-text}
 
@@ -83,30 +85,43 @@ left-more o first f₀ calls out place index f i m q l h s b =
       whole = omega arith;
     }
 
--- and from what the code has at hand: the call, what it came to, and its line
-pub left-goes-on : (o : List ℕ) (first : ℕ) (f₀ : Facility) (calls out : List ℕ) (place index : ℕ) (f : Facility) (i : ℕ) (m : List ℕ) (q : ℕ) (c : Call) (e : Enforced)
-    → Left o first f₀ calls out place index f i → i + 4 ≤ length calls → c ≡ callFrom calls i → e ≡ enforce f c
-    → Stored out place (lineText index c (e .outcome) (at (e .facility .runnings) (c .process)) (at (e .facility .currents) (c .process))) m q
-    → length (lineText index c (e .outcome) (at (e .facility .runnings) (c .process)) (at (e .facility .currents) (c .process))) ≤ 49
-    → Left o first f₀ calls m q (index + 1) (e .facility) (i + 4)
-left-goes-on o first f₀ calls out place index f i m q c e l h k d s b =
-    let t : lineText index c (e .outcome) (at (e .facility .runnings) (c .process)) (at (e .facility .currents) (c .process)) ≡ callLine index f (callFrom calls i)
-    = ap (λ (x : Enforced). lineText index c (x .outcome) (at (x .facility .runnings) (c .process)) (at (x .facility .currents) (c .process))) d ∙ line-is index f c ∙ ap (callLine index f) k in
-    let g : after f (callFrom calls i) ≡ e .facility = sym (ap (λ (x : Enforced). x .facility) (d ∙ ap (enforce f) k)) in
-    subst (λ (x : Facility). Left o first f₀ calls m q (index + 1) x (i + 4)) g
+-- and from what the code has at hand: the call, what it came to, the facility after it, and its line
+pub left-goes-on : (o : List ℕ) (first : ℕ) (f₀ : Facility) (calls out : List ℕ) (place index : ℕ) (f : Facility) (i : ℕ) (m : List ℕ) (q : ℕ)
+    (c : Call) (a : Outcome) (g : Facility) (running level : ℕ)
+    → Left o first f₀ calls out place index f i → i + 4 ≤ length calls → c ≡ callFrom calls i → a ≡ query f c → g ≡ after f c
+    → running ≡ at (g .runnings) (c .process) → level ≡ at (g .currents) (c .process)
+    → Stored out place (lineText index c a running level) m q → length (lineText index c a running level) ≤ 49
+    → Left o first f₀ calls m q (index + 1) g (i + 4)
+left-goes-on o first f₀ calls out place index f i m q c a g running level l h k d e u v s b =
+    let t : lineText index c a running level ≡ callLine index f (callFrom calls i) =
+    ap (λ (x : ℕ). lineText index c a x level) u ∙ ap (λ (x : ℕ). lineText index c a (at (g .runnings) (c .process)) x) v
+    ∙ ap (λ (x : Outcome). lineText index c x (at (g .runnings) (c .process)) (at (g .currents) (c .process))) d
+    ∙ ap (λ (x : Facility). lineText index c (query f c) (at (x .runnings) (c .process)) (at (x .currents) (c .process))) e
+    ∙ line-is index f c ∙ ap (callLine index f) k in
+    let w : after f (callFrom calls i) ≡ g = sym (e ∙ ap (after f) k) in
+    subst (λ (x : Facility). Left o first f₀ calls m q (index + 1) x (i + 4)) w
     (left-more o first f₀ calls out place index f i m q l h (as-text out m _ _ place q t s) (subst (λ (x : List ℕ). length x ≤ 49) t b))
+
+-- the bytes of a process that is read off a facility
+pub process-bytes : (r : Process) (f : Facility) (p : ℕ) → r ≡ processOf f p → (r .running ≡ at (f .runnings) p) × (r .current .level ≡ at (f .currents) p)
+unfolding processIn
+process-bytes r f p e = (ap (λ (x : Process). x .running) e, ap (λ (x : Process). x .current .level) e)
 
 pub left-done : (o : List ℕ) (first : ℕ) (f₀ : Facility) (calls out : List ℕ) (place index : ℕ) (f : Facility) (i : ℕ)
     → Left o first f₀ calls out place index f i → i ≤ length calls → length calls < i + 4
-    → Stored o 0 (callLines first f₀ (callsOf calls)) out place × (f ≡ run f₀ (callsOf calls)) × (length (callLines first f₀ (callsOf calls)) ≤ 49 * (length calls / 4))
+    → Stored o 0 (callLines first f₀ (callsOf calls)) out place × (f ≡ run f₀ (callsOf calls))
+    × (length (callLines first f₀ (callsOf calls)) ≤ 49 * (length calls / 4))
 left-done o first f₀ calls out place index f i l a h =
     let e = lines-none index f calls i h in
     let d = ap length e in
     let r = l .reached in
     let b = l .within in
     let z = l .most in
-    let w = l .whole in
-    ((sym (ap (sets out place) e) ∙ l .stored, (let q : place ≡ min (0 + length (callLines first f₀ (callsOf calls))) (length o) = omega arith in q)), sym (run-done f calls i h) ∙ l .facility, omega arith)
+    let w = l .whole in (
+      (sym (ap (sets out place) e) ∙ l .stored, (let q : place ≡ min (0 + length (callLines first f₀ (callsOf calls))) (length o) = omega arith in q)),
+      sym (run-done f calls i h) ∙ l .facility,
+      omega arith,
+    )
 
 -- What a function that prints a block answers and leaves.
 pub record Block (o : List ℕ) (first : ℕ) (f : Facility) (calls out : List ℕ) (n : ℕ) (g : Facility) : Type 0 where
@@ -187,10 +202,12 @@ whole-by-blocks i f a b h =
     let n = length-append a b in
     let m : length (a ++ b) % 4 ≡ length b % 4 = omega arith in
     let s = ap (λ (k : ℕ). cond (eqb k 0) [] (ascii "short\n")) m in
-    let t : callLines i f (callsOf a) ++ shortLine a ≡ callLines i f (callsOf a) = ap (λ (x : List ℕ). callLines i f (callsOf a) ++ x) (sym (not-short a h)) ∙ append-nil (callLines i f (callsOf a)) in
+    let t : callLines i f (callsOf a) ++ shortLine a ≡ callLines i f (callsOf a) = ap (λ (x : List ℕ). callLines i f (callsOf a) ++ x) (sym (not-short a h))
+    ∙ append-nil (callLines i f (callsOf a)) in
     let first = callLines i f (callsOf a) in
     let rest = callLines (i + length a / 4) (run f (callsOf a)) (callsOf b) in
     ap (λ (x : List ℕ). callLines i f (callsOf (a ++ b)) ++ x) s
-    ∙ ap (λ (x : List ℕ). x ++ shortLine b) (ap (callLines i f) (calls-joined a b h) ∙ lines-joined i f (callsOf a) (callsOf b) ∙ ap (λ (k : ℕ). first ++ callLines (i + k) (run f (callsOf a)) (callsOf b)) (calls-count a h))
+    ∙ ap (λ (x : List ℕ). x ++ shortLine b) (ap (callLines i f) (calls-joined a b h) ∙ lines-joined i f (callsOf a) (callsOf b)
+    ∙ ap (λ (k : ℕ). first ++ callLines (i + k) (run f (callsOf a)) (callsOf b)) (calls-count a h))
     ∙ append-assoc first rest (shortLine b)
     ∙ ap (λ (x : List ℕ). x ++ (rest ++ shortLine b)) (sym t)

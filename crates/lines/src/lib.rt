@@ -7,7 +7,8 @@ ghost use Rattle.state.specs.Outcomes.{answersOf, numberOf};
 ghost use Rattle.text.specs.Stored.{Stored};
 ghost use Rattle.io.specs.Counts.{Counts};
 ghost use Rattle.rules.specs.Lines.{setupLine, shortLine};
-ghost use Rattle.state.specs.Tests.{at};
+ghost use Rattle.in_place.specs.Layout.{facilityAt};
+ghost use Rattle.in_place.specs.Stores.{Becomes};
 ghost use Rattle.lines.specs.Printed.{blockText, facilityAfter, linesOf};
 ghost use Rattle.lines.specs.Texts.{callText, levelPart, lineText, outcomeText};
 use state::Call;
@@ -15,7 +16,7 @@ use state::Facility;
 use state::Outcome;
 
 // A level, or a hyphen where the process does not run.
-pub fn put_level(out: &mut [u8], place: usize, running: u8, level: u8) -> usize
+fn put_level(out: &mut [u8], place: usize, running: u8, level: u8) -> usize
     ensures { λ r. ⌜ Stored (now (out .entry)) place (levelPart running level) (now (out .exit)) r ⌝ }
 {
     if running == 1 {
@@ -49,21 +50,20 @@ fn put_outcome(out: &mut [u8], place: usize, index: u64, c: Call, outcome: Outco
     text::put_byte(out, p2, code)
 }
 
-// The line of a call with its outcome, and with the processes after it.
-pub fn put_line<'a>(
+// The line of a call with its outcome, and with the caller after it. At most 49 bytes: an index of 20 digits, six numbers of three, a level
+// of two or a hyphen, and seven blanks and a line feed between and behind them.
+fn put_line(
     out: &mut [u8],
     place: usize,
     index: u64,
     c: Call,
     outcome: Outcome,
-    runnings: &'a [u8],
-    currents: &'a [u8],
+    running: u8,
+    level: u8,
 ) -> usize
-    ensures { λ r. ⌜ Stored (now (out .entry)) place (lineText index c outcome (at (now (runnings .entry)) (c .process)) (at (now (currents .entry)) (c .process))) (now (out .exit)) r ⌝ }
-    ensures { λ r. ⌜ length (lineText index c outcome (at (now (runnings .entry)) (c .process)) (at (now (currents .entry)) (c .process))) ≤ 49 ⌝ }
+    ensures { λ r. ⌜ Stored (now (out .entry)) place (lineText index c outcome running level) (now (out .exit)) r ⌝ }
+    ensures { λ r. ⌜ length (lineText index c outcome running level) ≤ 49 ⌝ }
 {
-    let running = state::at(runnings, c.process as usize);
-    let level = state::at(currents, c.process as usize);
     let p1 = put_outcome(out, place, index, c, outcome);
     let p2 = put_level(out, p1, running, level);
     text::put_text(out, p2, b"\n")
@@ -77,7 +77,7 @@ pub struct Printed {
 }
 
 // The lines of a block of calls, the first of which has this index.
-pub fn put_lines(start: Facility, first: u64, calls: &[u8], out: &mut [u8]) -> Printed
+fn put_lines(start: Facility, first: u64, calls: &[u8], out: &mut [u8]) -> Printed
     ensures { λ r. ⌜ Stored (now (out .entry)) 0 (linesOf first start (now (calls .entry))) (now (out .exit)) (r .length) ⌝ }
     ensures { λ r. ⌜ r .facility ≡ facilityAfter first start (now (calls .entry)) ⌝ }
     ensures { λ r. ⌜ length (linesOf first start (now (calls .entry))) ≤ 49 * (length (now (calls .entry)) / 4) ⌝ }
@@ -101,7 +101,10 @@ pub fn put_lines(start: Facility, first: u64, calls: &[u8], out: &mut [u8]) -> P
         let enforced = calls::enforce(f, c);
         f = enforced.facility;
         let outcome = enforced.outcome;
-        place = put_line(out, place, here, c, outcome, &f.runnings, &f.currents);
+        let p = c.process as usize;
+        let running = state::at(&f.runnings, p);
+        let level = state::at(&f.currents, p);
+        place = put_line(out, place, here, c, outcome, running, level);
     }
     Printed {
         facility: f,
@@ -109,8 +112,41 @@ pub fn put_lines(start: Facility, first: u64, calls: &[u8], out: &mut [u8]) -> P
     }
 }
 
+// The same on a facility where it is: its bytes become those of the facility after the block.
+fn put_lines_in(s: &mut [u8; in_place::SIZE], first: u64, calls: &[u8], out: &mut [u8]) -> usize
+    ensures { λ r. ⌜ Stored (now (out .entry)) 0 (linesOf first (facilityAt (now (s .entry))) (now (calls .entry))) (now (out .exit)) r ⌝ }
+    ensures { λ r. ⌜ Becomes (now (s .entry)) (now (s .exit)) (facilityAfter first (facilityAt (now (s .entry))) (now (calls .entry))) ⌝ }
+    ensures { λ r. ⌜ length (linesOf first (facilityAt (now (s .entry))) (now (calls .entry))) ≤ 49 * (length (now (calls .entry)) / 4) ⌝ }
+{
+    let n = calls.len();
+    let mut place: usize = 0;
+    let mut i: usize = 0;
+    let mut index = first;
+    if 9223372036854775808 <= first {
+        return 0;
+    }
+    while 4 <= n - i {
+        let c = calls::call_at(calls, i);
+        i += 4;
+        let here = index;
+        index += 1;
+        let outcome = in_place::enforce_in(s, c);
+        let caller = in_place::process_of(s, c.process);
+        place = put_line(
+            out,
+            place,
+            here,
+            c,
+            outcome,
+            caller.running,
+            caller.current.level,
+        );
+    }
+    place
+}
+
 // `short`, where one to three bytes are left over.
-pub fn put_short(out: &mut [u8], place: usize, calls: &[u8]) -> usize
+fn put_short(out: &mut [u8], place: usize, calls: &[u8]) -> usize
     ensures { λ r. ⌜ Stored (now (out .entry)) place (shortLine (now (calls .entry))) (now (out .exit)) r ⌝ }
 {
     if calls.len() % 4 == 0 {
@@ -130,6 +166,17 @@ pub fn put_block(start: Facility, first: u64, calls: &[u8], out: &mut [u8]) -> P
     let facility = lines.facility;
     let length = put_short(out, lines.length, calls);
     Printed { facility, length }
+}
+
+// The same on a facility where it is.
+pub fn put_block_in(s: &mut [u8; in_place::SIZE], first: u64, calls: &[u8], out: &mut [u8]) -> usize
+    ensures { λ r. ⌜ Stored (now (out .entry)) 0 (blockText first (facilityAt (now (s .entry))) (now (calls .entry))) (now (out .exit)) r ⌝ }
+    ensures { λ r. ⌜ Becomes (now (s .entry)) (now (s .exit)) (facilityAfter first (facilityAt (now (s .entry))) (now (calls .entry))) ⌝ }
+    ensures { λ r. ⌜ length (blockText first (facilityAt (now (s .entry))) (now (calls .entry))) ≤ 49 * (length (now (calls .entry)) / 4) + 6 ⌝ }
+    ensures { λ r. ⌜ Counts r (now (out .exit)) ⌝ }
+{
+    let place = put_lines_in(s, first, calls, out);
+    put_short(out, place, calls)
 }
 
 // `set-up`, number and index of a refused set-up.

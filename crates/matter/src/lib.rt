@@ -2,7 +2,8 @@
 ghost use Prim.Native.Nat.{min};
 ghost use mathlib.Core.Path.{_≡_};
 ghost use lib.ListN.{getD};
-ghost use Rattle.matter.specs.Held.{assignedNothingOf, carriedOf, copiedOf, createdOf, enteredOf, heldBy, isMember, membersIn, mergedOf, noMembers, objectGainsOf, onObjectOf, onlyMember, processGainsOf, withObject, withProcess, selves, startOf, stepOf};
+ghost use Rattle.matter.specs.Held.{assignedNothingOf, carriedOf, copiedOf, createdOf, enteredOf, heldBy, isMember, membersIn, mergedOf, noMembers};
+ghost use Rattle.matter.specs.Held.{objectGainsOf, onObjectOf, onlyMember, processGainsOf, withObject, withProcess, selves, startOf, stepOf};
 ghost use Rattle.rules.specs.Matter.{gives, takes};
 use decide::class_of;
 use decide::in_directory;
@@ -27,14 +28,14 @@ pub struct Ledger {
 }
 
 impl Members {
-    pub fn none() -> Members
+    fn none() -> Members
         ensures { λ r. ⌜ r ≡ noMembers ⌝ }
     {
         Members { low: 0, high: 0 }
     }
 
     // The set of one object number, the empty one of a number that is none.
-    pub fn only(c: u8) -> Members
+    fn only(c: u8) -> Members
         ensures { λ r. ⌜ r ≡ onlyMember c ⌝ }
     {
         if c < 64 {
@@ -52,7 +53,7 @@ impl Members {
         Members::none()
     }
 
-    pub fn merged(self, other: Members) -> Members
+    fn merged(self, other: Members) -> Members
         ensures { λ r. ⌜ r ≡ mergedOf self other ⌝ }
     {
         Members {
@@ -61,7 +62,7 @@ impl Members {
         }
     }
 
-    pub fn has(self, c: u8) -> bool
+    fn has(self, c: u8) -> bool
         ensures { λ r. ⌜ r ≡ isMember self c ⌝ }
     {
         if c < 64 {
@@ -104,14 +105,14 @@ fn takes(request: u8, k: Class) -> bool
     }
 }
 
-// Write (19), and every W but write-open (20), delete (5) and create.
+// Write (19), and every W but write-open (20), delete (5) and create (4).
 fn gives(request: u8, k: Class) -> bool
     ensures { λ r. ⌜ r ≡ gives request k ⌝ }
 {
     match k {
         Class::Absent => false,
         Class::Reads => false,
-        Class::Writes => (request != 20) & (request != 5),
+        Class::Writes => (request != 20) & ((request != 5) & (request != 4)),
         Class::Both => false,
         Class::NoCondition => request == 19,
     }
@@ -169,17 +170,11 @@ impl Ledger {
         row(&self.processes, p)
     }
 
-    // Whether object x holds the matter of c, and whether process p does.
+    // Whether object x holds the matter of c.
     pub fn object_holds(self, x: u8, c: u8) -> bool
         ensures { λ r. ⌜ r ≡ heldBy (self .objects) x c ⌝ }
     {
         self.object_members(x).has(c)
-    }
-
-    pub fn process_holds(self, p: u8, c: u8) -> bool
-        ensures { λ r. ⌜ r ≡ heldBy (self .processes) p c ⌝ }
-    {
-        self.process_members(p).has(c)
     }
 
     // Object x holds s from now on, and so with process p.
@@ -208,7 +203,7 @@ impl Ledger {
     }
 
     // Process p gains what object t holds.
-    pub fn process_gains(self, p: u8, t: u8) -> Ledger
+    fn process_gains(self, p: u8, t: u8) -> Ledger
         ensures { λ r. ⌜ r ≡ processGainsOf self p t ⌝ }
     {
         let s = self.process_members(p).merged(self.object_members(t));
@@ -216,7 +211,7 @@ impl Ledger {
     }
 
     // Object t gains what process p holds.
-    pub fn object_gains(self, p: u8, t: u8) -> Ledger
+    fn object_gains(self, p: u8, t: u8) -> Ledger
         ensures { λ r. ⌜ r ≡ objectGainsOf self p t ⌝ }
     {
         let s = self.object_members(t).merged(self.process_members(p));
@@ -224,14 +219,14 @@ impl Ledger {
     }
 
     // Login: process p holds nothing.
-    pub fn assigned_nothing(self, p: u8) -> Ledger
+    fn assigned_nothing(self, p: u8) -> Ledger
         ensures { λ r. ⌜ r ≡ assignedNothingOf self p ⌝ }
     {
         self.with_process(p, Members::none())
     }
 
     // Clone: process t holds what p does.
-    pub fn copied(self, p: u8, t: u8) -> Ledger
+    fn copied(self, p: u8, t: u8) -> Ledger
         ensures { λ r. ⌜ r ≡ copiedOf self p t ⌝ }
     {
         if 32 <= p {
@@ -242,7 +237,7 @@ impl Ledger {
     }
 
     // Create: the next object number, where there is one, has this kind and holds itself.
-    pub fn entered(self, kind: u8) -> Ledger
+    fn entered(self, kind: u8) -> Ledger
         ensures { λ r. ⌜ r ≡ enteredOf self kind ⌝ }
     {
         let n = self.next;

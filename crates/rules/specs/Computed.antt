@@ -1,24 +1,87 @@
--- Lists of calls whose numbers, answers and matter are computed from the definitions, for the examples and edges of document 01.
-use Prim.Native.Nat.{ℕ}
-use mathlib.Core.List.{List, [], _∷_}
-use Rattle.rules.specs.Types.{Answer, Call, Facility}
-use Rattle.state.specs.Tests.{_and_, _or_, ask}
+-- Calls, set-ups and what is read off them, for the examples and edges of document 01, and what is unfolded so that they compute.
+use Prim.Native.Nat.{ℕ, zero, suc, _+_}
+use mathlib.Core.List.{List, [], _∷_, _++_, map}
+use Rattle.rules.specs.Types.{Answer, Answers, Call, Facility}
+use Rattle.state.specs.Tests.{_and_, _or_, ask, at}
 use Rattle.state.specs.Outcomes.{denies, answersFrom, outcomeOf, numberOf, answersOf}
-use Rattle.state.specs.State.{processIn, objectIn, userIn, opensOf, reading, writing, addModes, build, closeObject, closeProcess, copyProcess, putProcess, putOpens, putUser, putObject, addUser, addObject, dropObject, putRefusals, counted, freshProcess, noProcess, blank}
+use Rattle.state.specs.State.{processIn, objectIn, userIn, markPlace, opensOf, reading, writing, addModes}
+use Rattle.state.specs.State.{freshProcess, noProcess, blank}
+use Rattle.state.specs.State.{putProcess, putOpens, putUser, putObject, addUser, addObject, dropObject, putRefusals, counted}
 use Rattle.state.specs.Labels.{leq, same, join, meet, bottom, top, given}
-use Rattle.state.specs.Answers.{grant}
-use Rattle.rules.specs.Effects.{openBy, effectFrom}
-use Rattle.rules.specs.Calls.{accepted, objectGiven, query, afterRefusal, after}
+use Rattle.state.specs.Answers.{code, grant, passes}
 use Rattle.rules.specs.Requests.{requestOf, files, directories, channels, controlData, listOf, classAmong, classOf, openChange}
-use Rattle.rules.specs.Setup.{recordsOf, allowedLength, fits, room, switchesAllowed, userAllowed, objectAllowed, allowed, recordNumber, enterRecord, enterAll, readSetup}
-use Rattle.rules.specs.Lines.{decimalIn, levelText, callLine, callsOf, callLines, setupLine, shortLine, printed}
-use Rattle.rules.specs.Matter.{start, processGains, objectGains, assign, enter, carry, carryBy, afterEntry, account, history}
-use Rattle.rules.specs.Modules.{mayRead, mayWrite, maySet, macClass, macObject, macSignal, macRule, fcRule, simRule, macAnswer, fcAnswer, simAnswer, answers, moveBy, setLevel, moved, levelled}
+use Rattle.rules.specs.Setup.{recordsOf, allowedLength, fits, room, switchesAllowed, userAllowed, objectAllowed, allowed}
+use Rattle.rules.specs.Setup.{recordNumber, enterRecord, enterAll, readSetup}
+use Rattle.rules.specs.Setup.{bytesOfAll, firstUsers, firstLive, setupRecords, setupBytes, writeSetup}
+use Rattle.rules.specs.Modules.{mayRead, mayWrite, maySet, macClass, macObject, macSignal, macRule, fcRule, simRule}
+use Rattle.rules.specs.Modules.{macAnswer, fcAnswer, simAnswer, answers, moveBy, setLevel, moved, levelled}
 use Rattle.rules.specs.Questions.{inRange, isRunning, isFree, openFor, roomFor, numberBy}
+use Rattle.rules.specs.Effects.{openBy, effectFrom}
+use Rattle.rules.specs.Calls.{accepted, objectGiven, query, afterRefusal, after, run, outcomes, trustedLogin, trustedLogins}
+use Rattle.rules.specs.Matter.{start, processGains, objectGains, assign, enter, carry, carryBy, afterEntry, account, history}
+use Rattle.rules.specs.Lines.{decimalIn, levelText, callLine, callsOf, callLines, setupLine, shortLine, printed}
+
+-- Whoever unfolds one of these unfolds the definitions of its section.
+unfoldable pub labelsComputed : ℕ
+unfolding _and_ _or_ ask leq same join meet bottom top given
+labelsComputed = 0
+
+unfoldable pub outcomesComputed : ℕ
+unfolding grant passes denies answersFrom outcomeOf
+outcomesComputed = 0
+
+-- `closeObject`, `closeProcess` and `copyProcess` stay shut: they are 4,096 marks each, and Examples/Opens has the laws of them
+unfoldable pub stateComputed : ℕ
+unfolding processIn objectIn userIn markPlace opensOf reading writing addModes freshProcess noProcess blank
+stateComputed = 0
+
+unfoldable pub changesComputed : ℕ
+unfolding putProcess putOpens putUser putObject addUser addObject dropObject putRefusals counted
+changesComputed = 0
+
+unfoldable pub setupComputed : ℕ
+unfolding recordsOf allowedLength fits room switchesAllowed userAllowed objectAllowed allowed recordNumber enterRecord enterAll readSetup
+setupComputed = 0
+
+unfoldable pub writingComputed : ℕ
+unfolding bytesOfAll firstUsers firstLive setupRecords setupBytes writeSetup
+writingComputed = 0
+
+unfoldable pub requestsComputed : ℕ
+unfolding requestOf files directories channels controlData listOf classAmong classOf openChange
+requestsComputed = 0
+
+unfoldable pub modulesComputed : ℕ
+unfolding mayRead mayWrite maySet macClass macObject macSignal macRule fcRule simRule macAnswer fcAnswer simAnswer answers
+modulesComputed = 0
+
+unfoldable pub movesComputed : ℕ
+unfolding moveBy setLevel moved levelled
+movesComputed = 0
+
+unfoldable pub questionsComputed : ℕ
+unfolding inRange isRunning isFree openFor roomFor numberBy
+questionsComputed = 0
+
+unfoldable pub callsComputed : ℕ
+unfolding openBy effectFrom accepted objectGiven query afterRefusal after run outcomes trustedLogin trustedLogins
+callsComputed = 0
+
+unfoldable pub matterComputed : ℕ
+unfolding start processGains objectGains assign enter carry carryBy afterEntry account history
+matterComputed = 0
+
+unfoldable pub linesComputed : ℕ
+unfolding decimalIn levelText callLine callsOf callLines setupLine shortLine printed
+linesComputed = 0
 
 -- Whoever unfolds this unfolds every definition of document 01, so that closed calls compute.
+unfoldable pub decisionsComputed : ℕ
+unfolding labelsComputed outcomesComputed requestsComputed modulesComputed movesComputed questionsComputed callsComputed
+decisionsComputed = 0
+
 unfoldable pub everything : ℕ
-unfolding _and_ _or_ ask leq same join meet bottom top given grant denies answersFrom outcomeOf processIn objectIn userIn opensOf reading writing addModes build closeObject closeProcess copyProcess putProcess putOpens putUser putObject addUser addObject dropObject putRefusals counted freshProcess noProcess blank recordsOf allowedLength fits room switchesAllowed userAllowed objectAllowed allowed recordNumber enterRecord enterAll readSetup requestOf files directories channels controlData listOf classAmong classOf openChange mayRead mayWrite maySet macClass macObject macSignal macRule fcRule simRule macAnswer fcAnswer simAnswer answers moveBy setLevel moved levelled inRange isRunning isFree openFor roomFor numberBy openBy effectFrom accepted objectGiven query afterRefusal after start processGains objectGains assign enter carry carryBy afterEntry account history decimalIn levelText callLine callsOf callLines setupLine shortLine printed
+unfolding decisionsComputed stateComputed changesComputed setupComputed writingComputed matterComputed linesComputed
 everything = 0
 
 -- the combined answer, and the number, of each call of a list
@@ -45,3 +108,34 @@ user clearance role trusted = 1 ∷ clearance ∷ role ∷ trusted ∷ 0 ∷ 0 �
 
 abbrev pub object : ℕ → ℕ → ℕ → ℕ → List ℕ
 object kind level category datatype = 2 ∷ kind ∷ level ∷ category ∷ datatype ∷ 0 ∷ 0 ∷ 0 ∷ []
+
+-- 0, 1, .. up to n numbers
+abbrev pub numbersBelow : ℕ → List ℕ
+numbersBelow zero = []
+numbersBelow (suc n) = numbersBelow n ++ (n ∷ [])
+
+-- the numbers of MAC's, FC's, SIM's and the combined answer
+abbrev pub codes : Answers → List ℕ
+codes a = code (a .mac) ∷ code (a .fc) ∷ code (a .sim) ∷ code (a .combined) ∷ []
+
+-- what the arrays of a facility hold for process p: running, owner, current level, read mark, write mark, automatic
+abbrev pub processBytes : Facility → ℕ → List ℕ
+processBytes f p =
+    at (f .runnings) p ∷ at (f .owners) p ∷ at (f .currents) p ∷ at (f .readmarks) p ∷ at (f .writemarks) p ∷ at (f .automatics) p ∷ []
+
+-- for object t: live, kind, level, category, data type
+abbrev pub objectBytes : Facility → ℕ → List ℕ
+objectBytes f t =
+    at (f .lives) t ∷ at (f .kinds) t ∷ at (f .levels) t ∷ at (f .categories) t ∷ at (f .datatypes) t ∷ []
+
+-- for user u: clearance, role, trusted
+abbrev pub userBytes : Facility → ℕ → List ℕ
+userBytes f u = at (f .clearances) u ∷ at (f .roles) u ∷ at (f .trusts) u ∷ []
+
+-- the opens of process p on objects 0, 1, .. below n: 1 open for reading, 2 for writing, 3 for both
+abbrev pub openBytes : Facility → ℕ → ℕ → List ℕ
+openBytes f p n = map (λ t. opensOf f p t) (numbersBelow n)
+
+-- the switches, the number of users, of objects entered, and of refusals
+abbrev pub counts : Facility → List ℕ
+counts f = f .mac ∷ f .fc ∷ f .sim ∷ f .users ∷ f .entered ∷ f .refusals ∷ []

@@ -5,12 +5,13 @@ use mathlib.Core.Path.{_≡_}
 use mathlib.Core.Logic.{_≢_, _↔_}
 use mathlib.Core.Bool.{Bool, true, false}
 use mathlib.Core.List.{List, [], _∷_}
-use lib.Dec.{ltb}
+use lib.Dec.{ltb, eqb}
 use Rattle.rules.specs.Types.{Call}
-use Rattle.state.specs.Tests.{_and_, on}
+use Rattle.state.specs.Tests.{_and_, asked, on}
 use Rattle.state.specs.State.{objectOf, isUser, trustedUser, labelOf, clearanceOf}
 use Rattle.state.specs.Labels.{Label, given, _⊑_}
 use Rattle.rules.specs.Calls.{run, trustedLogins}
+use Rattle.rules.specs.Requests.{requestOf, isLogin}
 use Rattle.rules.specs.Setup.{fresh}
 use Rattle.rules.specs.Matter.{holds}
 
@@ -38,10 +39,16 @@ unfoldable pub allFourBytes : List Call → Bool
 allFourBytes [] = true
 allFourBytes (c ∷ cs) = fourBytes c and allFourBytes cs
 
--- A list without a trusted login after which b holds the matter of a.
-pub record Carries (s : List ℕ) (a b : ℕ) : Type 0 where
+-- All logins of a list, accepted or refused, are user u's.
+unfoldable pub loginsBy : ℕ → List Call → Bool
+loginsBy u [] = true
+loginsBy u (c ∷ cs) = asked (isLogin (requestOf (c .request))) (eqb (c .extra) u) and loginsBy u cs
+
+-- A list without a trusted login, whose logins are u's, after which b holds the matter of a.
+pub record Carries (s : List ℕ) (u a b : ℕ) : Type 0 where
   pub calls : List Call
   pub four : allFourBytes calls ≡ true
+  pub logins : loginsBy u calls ≡ true
   pub untrusted : trustedLogins (fresh s) calls ≡ false
   pub holding : holds s calls b a ≡ true
 
@@ -53,10 +60,10 @@ pub record Cleared (s : List ℕ) (u a b : ℕ) : Type 0 where
   pub second : labelOf (fresh s) b ⊑ clearanceOf (fresh s) u
 
 -- Second half: for every set-up with MAC on alone, objects a and b of it, a no channel, and an untrusted user cleared for both,
--- there is a list by which b comes to hold the matter of a exactly when b's level is at least a's.
+-- there is a list, with logins of this user alone, by which b comes to hold the matter of a exactly when b's level is at least a's.
 abbrev pub ExactlyWhen : Type 0
 ExactlyWhen =
     (s : List ℕ) → on (fresh s .mac) ≡ true → on (fresh s .fc) ≡ false → on (fresh s .sim) ≡ false
     → (a b : ℕ) → a < fresh s .entered → b < fresh s .entered → (objectOf (fresh s) a) .kind ≢ 2
     → (u : ℕ) → Cleared s u a b
-    → Carries s a b ↔ (labelOf (fresh s) a ⊑ labelOf (fresh s) b)
+    → Carries s u a b ↔ (labelOf (fresh s) a ⊑ labelOf (fresh s) b)

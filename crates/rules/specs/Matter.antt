@@ -7,7 +7,8 @@ use Rattle.rules.specs.Types.{Call, Facility}
 use Rattle.state.specs.Tests.{_and_, _or_}
 use Rattle.state.specs.State.{objectOf}
 use Rattle.rules.specs.Calls.{accepted, after}
-use Rattle.rules.specs.Requests.{Request, Login, Clone, SendSignal, SetLevel, Terminate, Create, OnObject, Unknown, Class, Absent, Reads, Writes, Both, NoCondition, requestOf, classOf, inDirectory}
+use Rattle.rules.specs.Requests.{Request, Login, Clone, SendSignal, SetLevel, Terminate, Create, OnObject, Unknown}
+use Rattle.rules.specs.Requests.{Class, Absent, Reads, Writes, Both, NoCondition, requestOf, classOf, inDirectory}
 use Rattle.rules.specs.Setup.{fresh}
 
 -- a set of object numbers
@@ -87,11 +88,11 @@ takes r Writes = false
 takes r Both = false
 takes r NoCondition = eqb r 12
 
--- write (19), and every W but write-open (20), delete (5) and create
+-- write (19), and every W but write-open (20), delete (5) and create (4), which `carryBy` has
 abbrev pub gives : ℕ → Class → Bool
 gives r Absent = false
 gives r Reads = false
-gives r Writes = not (eqb r 20) and not (eqb r 5)
+gives r Writes = not (eqb r 20) and not (eqb r 5) and not (eqb r 4)
 gives r Both = false
 gives r NoCondition = eqb r 19
 

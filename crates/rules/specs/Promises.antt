@@ -20,9 +20,9 @@ use Rattle.rules.specs.Questions.{inRange, isRunning, isFree, openFor, r
 pub record Refusals : Type 0 where
   -- everything but the counter is as it was
   pub unchanged : (f : Facility) (c : Call) → accepted f c ≡ false → after f c ≡ putRefusals f (after f c .refusals)
-  -- numbers 1 to 11 leave the counter too, and come with four not-cared answers and object 255
-  pub uncounted : (f : Facility) (c : Call) → 1 ≤ number f c → number f c ≤ 11 → after f c ≡ f
-  pub unasked : (f : Facility) (c : Call) → 1 ≤ number f c → number f c ≤ 11 → query f c ≡ Refused (number f c)
+  -- refusals but 12 and 13 leave the counter too, and come with four not-cared answers and object 255
+  pub uncounted : (f : Facility) (c : Call) → accepted f c ≡ false → denies (number f c) ≡ false → after f c ≡ f
+  pub unasked : (f : Facility) (c : Call) → accepted f c ≡ false → denies (number f c) ≡ false → query f c ≡ Refused (number f c)
   -- 12 and 13 are counted, and there is no larger number
   pub counts : (f : Facility) (c : Call) → denies (number f c) ≡ true → after f c ≡ counted f
   pub largest : (f : Facility) (c : Call) → number f c ≤ 13

@@ -5,24 +5,13 @@ use libc::STDOUT_FILENO;
 use state::Facility;
 use state::SetupOutcome;
 
-// What a block came to: the facility after it, and whether more is to be read.
-struct Done {
-    facility: Facility,
-    more: bool,
-}
-
-// Reads a block of calls, and writes its lines. A block that is not full is the last.
-fn turn(f: Facility, first: u64, bytes: &mut [u8], out: &mut [u8]) -> Done {
+// Reads a block of calls, and writes its lines; whether more is to be read. A block that is not full is the last.
+fn turn(f: &mut [u8; in_place::SIZE], first: u64, bytes: &mut [u8], out: &mut [u8]) -> bool {
     let size = bytes.len();
     let got = io::read_full(STDIN_FILENO, bytes);
-    let printed = lines::put_block(f, first, &bytes[..got], out);
-    let facility = printed.facility;
-    let n = printed.length;
+    let n = lines::put_block_in(f, first, &bytes[..got], out);
     let is_written = io::write_all(STDOUT_FILENO, &out[..n]);
-    Done {
-        facility,
-        more: is_written & (got == size),
-    }
+    is_written & (got == size)
 }
 
 // A block has 4,096 bytes, which are 1,024 calls of at most 49 bytes of text each: 65,536 bytes hold its lines.
@@ -30,14 +19,14 @@ fn turn(f: Facility, first: u64, bytes: &mut [u8], out: &mut [u8]) -> Done {
 fn run(start: Facility) {
     let mut bytes = io::buffer();
     let mut out = io::large_buffer();
-    let mut f = start;
+    let mut f = [0u8; in_place::SIZE];
+    in_place::store_in(start, &mut f);
     let mut k: u64 = 0;
     while k < 9007199254740992 {
-        let t = turn(f, k * 1024 + 1, &mut bytes, &mut out);
-        if !t.more {
+        let more = turn(&mut f, k * 1024 + 1, &mut bytes, &mut out);
+        if !more {
             return;
         }
-        f = t.facility;
         k += 1;
     }
 }

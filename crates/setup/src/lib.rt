@@ -4,7 +4,9 @@ ghost use mathlib.Core.Bool.{cond};
 ghost use mathlib.Core.Path.{_≡_};
 ghost use lib.ListN.{drop, length};
 ghost use lib.Seq.{sets};
-ghost use Rattle.rules.specs.Setup.{allowed, allowedLength, bytesOf, enterAll, enterRecord, firstRecord, fits, objectAllowed, objectEntered, objectRecord, readSetup, recordNumber, recordsOf, refusedSetup, room, switchesAllowed, userAllowed, userEntered, userRecord, writeSetup};
+ghost use Rattle.rules.specs.Setup.{allowed, allowedLength, bytesOf, enterAll, enterRecord, firstRecord, fits, objectAllowed, objectEntered};
+ghost use Rattle.rules.specs.Setup.{objectRecord, readSetup, recordNumber, recordsOf, refusedSetup, room, switchesAllowed, userAllowed};
+ghost use Rattle.rules.specs.Setup.{userEntered, userRecord, writeSetup};
 ghost use Rattle.setup.specs.Stored.{liveBytes, liveCount, objectBytes, userBytes};
 ghost use Rattle.state.specs.State.{blank, objectsFrom, usersFrom};
 use rules::Reading;
@@ -17,7 +19,7 @@ use state::User;
 use state::WriteOutcome;
 
 // Record i of the bytes; 0 past their end.
-pub fn record_at(s: &[u8], i: u8) -> SetupRecord
+fn record_at(s: &[u8], i: u8) -> SetupRecord
     ensures { λ r. ⌜ r ≡ firstRecord (drop (i * 8) (now (s .entry))) ⌝ }
 {
     let at = (i as usize) * 8;
@@ -34,14 +36,14 @@ pub fn record_at(s: &[u8], i: u8) -> SetupRecord
 }
 
 // 14: is the length a positive multiple of 8, at most 1,160?
-pub fn allowed_length(n: usize) -> bool
+fn allowed_length(n: usize) -> bool
     ensures { λ r. ⌜ r ≡ allowedLength n ⌝ }
 {
     (n % 8 == 0) & ((0 < n) & (n <= 1160))
 }
 
 // 15: does the kind fit the place?
-pub fn fits(entered: u8, i: u8, r: SetupRecord) -> bool
+fn fits(entered: u8, i: u8, r: SetupRecord) -> bool
     ensures { λ x. ⌜ x ≡ fits entered i r ⌝ }
 {
     if i == 0 {
@@ -51,7 +53,7 @@ pub fn fits(entered: u8, i: u8, r: SetupRecord) -> bool
 }
 
 // 16: are fewer than 16 users, or 128 objects, entered before it?
-pub fn room(users: u8, entered: u8, r: SetupRecord) -> bool
+fn room(users: u8, entered: u8, r: SetupRecord) -> bool
     ensures { λ x. ⌜ x ≡ room users entered r ⌝ }
 {
     if r.kind == 1 {
@@ -64,21 +66,21 @@ pub fn room(users: u8, entered: u8, r: SetupRecord) -> bool
 }
 
 // 17: is every byte allowed? By kind.
-pub fn switches_allowed(r: SetupRecord) -> bool
+fn switches_allowed(r: SetupRecord) -> bool
     ensures { λ x. ⌜ x ≡ switchesAllowed r ⌝ }
 {
     let rest = (r.four == 0) & ((r.five == 0) & ((r.six == 0) & (r.seven == 0)));
     (r.one <= 1) & ((r.two <= 1) & ((r.three <= 1) & rest))
 }
 
-pub fn user_allowed(r: SetupRecord) -> bool
+fn user_allowed(r: SetupRecord) -> bool
     ensures { λ x. ⌜ x ≡ userAllowed r ⌝ }
 {
     let rest = (r.four == 0) & ((r.five == 0) & ((r.six == 0) & (r.seven == 0)));
     (r.one <= 15) & ((r.two <= 2) & ((r.three <= 1) & rest))
 }
 
-pub fn object_allowed(r: SetupRecord) -> bool
+fn object_allowed(r: SetupRecord) -> bool
     ensures { λ x. ⌜ x ≡ objectAllowed r ⌝ }
 {
     let level = (r.two <= 15) | (r.two == 255);
@@ -87,7 +89,7 @@ pub fn object_allowed(r: SetupRecord) -> bool
     (r.one <= 3) & (level & (category & rest))
 }
 
-pub fn allowed(r: SetupRecord) -> bool
+fn allowed(r: SetupRecord) -> bool
     ensures { λ x. ⌜ x ≡ allowed r ⌝ }
 {
     if r.kind == 3 {
@@ -100,7 +102,7 @@ pub fn allowed(r: SetupRecord) -> bool
 }
 
 // The questions 15 to 17 of one record.
-pub fn record_number(users: u8, entered: u8, i: u8, r: SetupRecord) -> u8
+fn record_number(users: u8, entered: u8, i: u8, r: SetupRecord) -> u8
     ensures { λ x. ⌜ x ≡ recordNumber users entered i r ⌝ }
 {
     if !fits(entered, i, r) {
@@ -116,7 +118,7 @@ pub fn record_number(users: u8, entered: u8, i: u8, r: SetupRecord) -> u8
 }
 
 // The user and the object that a record enters.
-pub fn user_entered(r: SetupRecord) -> User
+fn user_entered(r: SetupRecord) -> User
     ensures { λ x. ⌜ x ≡ userEntered r ⌝ }
 {
     User {
@@ -126,7 +128,7 @@ pub fn user_entered(r: SetupRecord) -> User
     }
 }
 
-pub fn object_entered(r: SetupRecord) -> Object
+fn object_entered(r: SetupRecord) -> Object
     ensures { λ x. ⌜ x ≡ objectEntered r ⌝ }
 {
     Object {
@@ -139,7 +141,7 @@ pub fn object_entered(r: SetupRecord) -> Object
 }
 
 // The facility with one record more.
-pub fn enter_record(f: Facility, r: SetupRecord) -> Facility
+fn enter_record(f: Facility, r: SetupRecord) -> Facility
     ensures { λ x. ⌜ x ≡ enterRecord f r ⌝ }
 {
     if r.kind == 3 {
@@ -195,7 +197,7 @@ pub fn read_setup(s: &[u8]) -> Reading
 }
 
 // The records that are written out for a user and an object.
-pub fn user_record(u: User) -> SetupRecord
+fn user_record(u: User) -> SetupRecord
     ensures { λ x. ⌜ x ≡ userRecord u ⌝ }
 {
     SetupRecord {
@@ -210,7 +212,7 @@ pub fn user_record(u: User) -> SetupRecord
     }
 }
 
-pub fn object_record(o: Object) -> SetupRecord
+fn object_record(o: Object) -> SetupRecord
     ensures { λ x. ⌜ x ≡ objectRecord o ⌝ }
 {
     SetupRecord {
@@ -243,7 +245,8 @@ fn put_record(out: &mut [u8], place: usize, r: SetupRecord)
 // The first n users are stored from byte 8 on.
 fn put_users<'a>(out: &mut [u8], clearances: &'a [u8], roles: &'a [u8], trusts: &'a [u8], n: u8)
     requires { ⌜ 8 + n * 8 ≤ length (now out) ⌝ }
-    ensures { λ x. ⌜ now (out .exit) ≡ sets (now (out .entry)) 8 (userBytes n (usersFrom (now (clearances .entry)) (now (roles .entry)) (now (trusts .entry)))) ⌝ }
+    ensures { λ x. ⌜ now (out .exit)
+        ≡ sets (now (out .entry)) 8 (userBytes n (usersFrom (now (clearances .entry)) (now (roles .entry)) (now (trusts .entry)))) ⌝ }
 {
     let mut k: u8 = 0;
     while k < n {
@@ -280,7 +283,9 @@ fn put_objects<'a>(
     n: u8,
 )
     requires { ⌜ start + length (objectBytes n (objectsFrom (now lives) (now kinds) (now levels) (now categories) (now datatypes))) ≤ length (now out) ⌝ }
-    ensures { λ x. ⌜ now (out .exit) ≡ sets (now (out .entry)) start (objectBytes n (objectsFrom (now (lives .entry)) (now (kinds .entry)) (now (levels .entry)) (now (categories .entry)) (now (datatypes .entry)))) ⌝ }
+    ensures { λ x. ⌜ now (out .exit)
+        ≡ sets (now (out .entry)) start (objectBytes n (objectsFrom (now (lives .entry)) (now (kinds .entry)) (now (levels .entry))
+        (now (categories .entry)) (now (datatypes .entry)))) ⌝ }
 {
     let mut place = start;
     let mut k: u8 = 0;

@@ -1,7 +1,9 @@
 -- "What the modules answer": the answers' numbers and their combination.
-use Prim.Native.Nat.{ℕ}
+use Prim.Native.Nat.{ℕ, _≤_, _<_}
 use mathlib.Core.Path.{_≡_, refl, sym}
-use mathlib.Core.Bool.{Bool, true, false}
+use mathlib.Core.Bool.{Bool, true, false, cond}
+use lib.Dec.{ltb}
+use borrow.Author.Tests.{lt-ltb, le-ltb}
 pub use Rattle.state.specs.declared.Answer.{Answer}
 pub use Rattle.state.specs.declared.Answer.the-variants.{NotCared, Granted, NotGranted, Undefined}
 
@@ -101,3 +103,28 @@ combine-not-cared NotCared = refl
 combine-not-cared Granted = refl
 combine-not-cared NotGranted = refl
 combine-not-cared Undefined = refl
+
+-- the table's answer is the one with the larger number
+pub combine-larger : (a b : Answer) → cond (ltb (code a) (code b)) b a ≡ combine a b
+combine-larger NotCared NotCared = refl
+combine-larger NotCared Granted = refl
+combine-larger NotCared NotGranted = refl
+combine-larger NotCared Undefined = refl
+combine-larger Granted NotCared = refl
+combine-larger Granted Granted = refl
+combine-larger Granted NotGranted = refl
+combine-larger Granted Undefined = refl
+combine-larger NotGranted NotCared = refl
+combine-larger NotGranted Granted = refl
+combine-larger NotGranted NotGranted = refl
+combine-larger NotGranted Undefined = refl
+combine-larger Undefined NotCared = refl
+combine-larger Undefined Granted = refl
+combine-larger Undefined NotGranted = refl
+combine-larger Undefined Undefined = refl
+
+pub combine-second : (a b : Answer) → code a < code b → b ≡ combine a b
+combine-second a b h = rw (lt-ltb (code a) (code b) h) at (combine-larger a b)
+
+pub combine-first : (a b : Answer) → code b ≤ code a → a ≡ combine a b
+combine-first a b h = rw (le-ltb (code a) (code b) h) at (combine-larger a b)

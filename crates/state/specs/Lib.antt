@@ -7,3 +7,4 @@ pub mod State
 pub mod Table47
 pub mod Views
 pub mod Loops
+pub mod Outside

@@ -27,22 +27,22 @@ answersFrom m f s = record { mac = m; fc = f; sim = s; combined = combined3 m f 
 
 -- what a call with this number, these answers and this object comes to
 unfoldable pub outcomeOf : ℕ → Answers → ℕ → Outcome
-outcomeOf n a o = cond (eqb n 0) (Accepted a o) (cond (denies n) (Denied n a) (Refused n))
+outcomeOf n a o = cond (eqb n 0) (Accepted a o) (cond (denies n) (Denied a n) (Refused n))
 
 -- a call's number, answers and object
 abbrev pub numberOf : Outcome → ℕ
 numberOf (Accepted a o) = 0
-numberOf (Denied n a) = n
+numberOf (Denied a n) = n
 numberOf (Refused n) = n
 
 abbrev pub answersOf : Outcome → Answers
 answersOf (Accepted a o) = a
-answersOf (Denied n a) = a
+answersOf (Denied a n) = a
 answersOf (Refused n) = notCared
 
 abbrev pub objectNumberOf : Outcome → ℕ
 objectNumberOf (Accepted a o) = o
-objectNumberOf (Denied n a) = 255
+objectNumberOf (Denied a n) = 255
 objectNumberOf (Refused n) = 255
 
 -- a set-up's number and index

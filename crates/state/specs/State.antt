@@ -133,8 +133,12 @@ isAutomatic r = on (r .automatic)
 abbrev pub place : ℕ → ℕ → ℕ
 place p t = p * mostObjects + t
 
+-- where the marks of process p on object t stand; past the end of the array where p or t is no such number
+unfoldable pub markPlace : ℕ → ℕ → ℕ
+markPlace p t = cond (ltb t mostObjects) (place p t) mostOpens
+
 unfoldable pub opensOf : Facility → ℕ → ℕ → ℕ
-opensOf f p t = at (f .opens) (place p t)
+opensOf f p t = at (f .opens) (markPlace p t)
 
 -- open for reading, open for writing
 unfoldable pub reading : ℕ → Bool
@@ -205,6 +209,10 @@ putProcess f p r =
 unfoldable pub putOpens : Facility → List ℕ → Facility
 putOpens f l = with f (f .users) (usersIn f) (f .entered) (objectsIn f) (processesIn f) l (f .refusals)
 
+-- the marks of process p on object t
+abbrev pub putMarks : Facility → ℕ → ℕ → ℕ → Facility
+putMarks f p t v = putOpens f (set (f .opens) (markPlace p t) v)
+
 -- the user with the next number
 unfoldable pub putUser : Facility → User → Facility
 putUser f u =
@@ -266,10 +274,10 @@ abbrev pub cloned : Facility → ℕ → ℕ → Facility
 cloned f p t = putOpens (putProcess f t (processOf f p)) (copyProcess (f .opens) p t)
 
 abbrev pub opened : Facility → ℕ → ℕ → ℕ → Facility
-opened f p t m = putOpens f (set (f .opens) (place p t) (addModes (opensOf f p t) m))
+opened f p t m = putMarks f p t (addModes (opensOf f p t) m)
 
 abbrev pub closed : Facility → ℕ → ℕ → Facility
-closed f p t = putOpens f (set (f .opens) (place p t) 0)
+closed f p t = putMarks f p t 0
 
 abbrev pub deleted : Facility → ℕ → Facility
 deleted f t = dropObject (putOpens f (closeObject (f .opens) t)) t

@@ -1,15 +1,19 @@
 -- What each way of changing a facility does to what is read off it.
 use Prim.Native.Nat.{ℕ, zero, suc, _+_, _/_, _%_, _≤_, _<_}
-use mathlib.Core.Path.{_≡_, refl, ap}
+use mathlib.Core.Path.{_≡_, refl, ap, _∙_}
 use mathlib.Core.Logic.{_≢_}
 use mathlib.Core.Bool.{Bool, true, false, cond}
 use mathlib.Core.List.{List}
+use lib.Dec.{ltb}
 use lib.ListN.{length, set, length-set}
 use lib.Seq.{getD-set-same, getD-set-other, set-out}
 use native.Mathlib.Omega.{arith}
-use borrow.Author.Tests.{lt-ltb}
-use Rattle.state.specs.Tests.{_or_, at}
-use Rattle.state.specs.State.{Facility, Process, Object, User, mostUsers, mostProcesses, mostObjects, mostOpens, Users, Objects, Processes, objectsFrom, processesFrom, usersIn, objectsIn, processesIn, processIn, objectIn, userIn, processOf, objectOf, userOf, place, reading, writing, addModes, build, with, putProcess, putOpens, putUser, putObject, addUser, addObject, dropObject, putRefusals}
+use borrow.Author.Tests.{lt-ltb, le-ltb}
+use Rattle.state.specs.Tests.{_or_, at, by-test}
+use Rattle.state.specs.State.{Facility, Process, Object, User, mostUsers, mostProcesses, mostObjects, mostOpens, Users, Objects, Processes}
+use Rattle.state.specs.State.{objectsFrom, processesFrom, usersIn, objectsIn, processesIn, processIn, objectIn, userIn, processOf, objectOf, userOf}
+use Rattle.state.specs.State.{place, markPlace, opensOf, reading, writing, addModes, build, with, putProcess, putOpens, putMarks, putUser, putObject}
+use Rattle.state.specs.State.{addUser, addObject, dropObject, putRefusals}
 use Rattle.state.specs.Labels.{label}
 
 -- the arrays have their lengths
@@ -221,6 +225,27 @@ place-object p t k = omega arith
 pub place-process : (p t : ℕ) → t < mostObjects → place p t / mostObjects ≡ p
 place-process p t k = omega arith
 
+pub mark-place : (p t : ℕ) → t < mostObjects → markPlace p t ≡ place p t
+unfolding markPlace
+mark-place p t h = rw (lt-ltb t mostObjects h)
+
+-- a number that is none has its place past the end
+pub no-object-place : (p t : ℕ) → mostObjects ≤ t → markPlace p t ≡ mostOpens
+unfolding markPlace
+no-object-place p t h = rw (le-ltb t mostObjects h)
+
+pub no-process-place : (p t : ℕ) → mostProcesses ≤ p → mostOpens ≤ markPlace p t
+unfolding markPlace
+no-process-place p t h = by-test (ltb t mostObjects) (λ e. rw e (omega arith)) (λ e. rw e (omega arith))
+
+pub opens-at : (f : Facility) (p t : ℕ) → t < mostObjects → opensOf f p t ≡ at (f .opens) (place p t)
+unfolding opensOf
+opens-at f p t h = rw (mark-place p t h)
+
+pub opens-put : (f : Facility) (l : List ℕ) (p t : ℕ) → t < mostObjects → opensOf (putOpens f l) p t ≡ at l (place p t)
+unfolding putOpens
+opens-put f l p t h = opens-at (putOpens f l) p t h
+
 -- the two marks of an open
 read-bit : (a b : Bool) → reading (cond a 1 0 + cond b 2 0) ≡ a
 unfolding reading
@@ -272,3 +297,9 @@ drop-out f t e h =
     λ i. with f (f .users) (usersIn f) (f .entered)
     (objectsFrom (set-out (f .lives) t 0 (omega arith) i) (f .kinds) (f .levels) (f .categories) (f .datatypes))
     (processesIn f) (f .opens) (f .refusals)
+
+-- a process that is none is put, and its marks become g of what they were
+pub marks-of-none : (f : Facility) (p t : ℕ) (g : ℕ → ℕ) (r : Process) → ProcessesShaped (processesIn f) → length (f .opens) ≡ mostOpens
+    → mostProcesses ≤ p → putMarks (putProcess f p r) p t (g (opensOf (putProcess f p r) p t)) ≡ f
+marks-of-none f p t g r s n h =
+    ap (λ (x : Facility). putMarks x p t (g (opensOf x p t))) (process-out f p r s h) ∙ opens-out f _ _ n (no-process-place p t h)

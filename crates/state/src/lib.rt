@@ -1,14 +1,16 @@
 // The types of the facility: what a call and a set-up are answered with, labels, processes, users, objects and the state that holds them.
 ghost use mathlib.Core.Bool.{cond};
 ghost use mathlib.Core.Path.{_≡_};
-ghost use Rattle.state.specs.Answers.{code, combine, combined3, passes, isNotGranted, isUndefined, grant};
+ghost use Rattle.state.specs.Answers.{code, combine, isNotGranted, isUndefined, grant};
 ghost use Rattle.state.specs.Labels.{label, leq, same, join, meet, given};
 ghost use Rattle.state.specs.Loops.{clearColumn, clearRow, copyRow};
 ghost use Rattle.state.specs.Outcomes.{answersFrom, outcomeOf, numberOf, answersOf, objectNumberOf, denies};
 ghost use Prim.Native.Nat.{_<_, _≤_};
 ghost use mathlib.Core.Logic.{_≢_};
 ghost use lib.ListN.{getD, set};
-ghost use Rattle.state.specs.State.{addModes, addObject, addUser, blank, cloned, closeObject, closeProcess, closed, copyProcess, counted, deleted, freshProcess, noProcess, objectIn, objectOf, objectsFrom, opened, place, processIn, processOf, processesFrom, putOpens, putProcess, reading, terminated, userIn, userOf, usersFrom, writing};
+ghost use Rattle.state.specs.State.{addModes, addObject, addUser, blank, cloned, closeProcess, closed, copyProcess, counted, deleted, freshProcess};
+ghost use Rattle.state.specs.State.{noProcess, objectIn, objectOf, markPlace, objectsFrom, opened, processIn, processOf, processesFrom, putOpens};
+ghost use Rattle.state.specs.State.{putProcess, reading, terminated, userIn, userOf, usersFrom, writing};
 
 // What a module answers to a call.
 pub enum Answer {
@@ -31,7 +33,7 @@ pub enum Outcome {
     // Number 0. `object` is the number that create gave, 255 with every other request.
     Accepted { answers: Answers, object: u8 },
     // Number 12 or 13: the modules' combined answer refuses.
-    Denied { number: u8, answers: Answers },
+    Denied { answers: Answers, number: u8 },
     // Number 1 to 11: the modules are not asked.
     Refused { number: u8 },
 }
@@ -137,25 +139,14 @@ impl Answer {
         }
     }
 
-    // Table 4.7.
-    pub fn combine(self, other: Answer) -> Answer
+    // Table 4.7: the one with the larger number.
+    fn combine(self, other: Answer) -> Answer
         ensures { λ r. ⌜ r ≡ combine self other ⌝ }
     {
-        match self {
-            Answer::NotCared => other,
-            Answer::Granted => match other {
-                Answer::NotCared => Answer::Granted,
-                Answer::Granted => Answer::Granted,
-                Answer::NotGranted => Answer::NotGranted,
-                Answer::Undefined => Answer::Undefined,
-            },
-            Answer::NotGranted => match other {
-                Answer::NotCared => Answer::NotGranted,
-                Answer::Granted => Answer::NotGranted,
-                Answer::NotGranted => Answer::NotGranted,
-                Answer::Undefined => Answer::Undefined,
-            },
-            Answer::Undefined => Answer::Undefined,
+        if self.code() < other.code() {
+            other
+        } else {
+            self
         }
     }
 
@@ -267,7 +258,7 @@ impl Outcome {
             return Outcome::Accepted { answers, object };
         }
         if is_denial(number) {
-            return Outcome::Denied { number, answers };
+            return Outcome::Denied { answers, number };
         }
         Outcome::Refused { number }
     }
@@ -281,7 +272,7 @@ impl Outcome {
                 answers: _,
                 object: _,
             } => 0,
-            Outcome::Denied { number, answers: _ } => number,
+            Outcome::Denied { answers: _, number } => number,
             Outcome::Refused { number } => number,
         }
     }
@@ -291,7 +282,7 @@ impl Outcome {
     {
         match self {
             Outcome::Accepted { answers, object: _ } => answers,
-            Outcome::Denied { number: _, answers } => answers,
+            Outcome::Denied { answers, number: _ } => answers,
             Outcome::Refused { number: _ } => Answers {
                 mac: Answer::NotCared,
                 fc: Answer::NotCared,
@@ -307,8 +298,8 @@ impl Outcome {
         match self {
             Outcome::Accepted { answers: _, object } => object,
             Outcome::Denied {
-                number: _,
                 answers: _,
+                number: _,
             } => 255,
             Outcome::Refused { number: _ } => 255,
         }
@@ -384,6 +375,16 @@ fn bit(set: bool, value: u8) -> u8
     if set { value } else { 0 }
 }
 
+// Where the marks of process p on object t stand, past the end where there are none: the one guard of numbers that are none.
+pub fn mark_place(p: u8, t: u8) -> u16
+    ensures { λ r. ⌜ r ≡ markPlace p t ⌝ }
+{
+    if 128 <= t {
+        return 4096;
+    }
+    (p as u16) * 128 + (t as u16)
+}
+
 // All marks of process p go.
 fn clear_row(opens: &mut [u8; 4096], p: usize)
     requires { ⌜ p < 32 ⌝ }
@@ -440,7 +441,8 @@ pub fn process_at<'a>(
     automatics: &'a [u8],
     p: usize,
 ) -> Process
-    ensures { λ r. ⌜ r ≡ processIn (processesFrom (now (runnings .entry)) (now (owners .entry)) (now (currents .entry)) (now (readmarks .entry)) (now (writemarks .entry)) (now (automatics .entry))) p ⌝ }
+    ensures { λ r. ⌜ r ≡ processIn (processesFrom (now (runnings .entry)) (now (owners .entry)) (now (currents .entry)) (now (readmarks .entry))
+        (now (writemarks .entry)) (now (automatics .entry))) p ⌝ }
 {
     let current = Label::of(at(currents, p));
     let readmark = Label::of(at(readmarks, p));
@@ -463,7 +465,8 @@ pub fn object_at<'a>(
     datatypes: &'a [u8],
     t: usize,
 ) -> Object
-    ensures { λ r. ⌜ r ≡ objectIn (objectsFrom (now (lives .entry)) (now (kinds .entry)) (now (levels .entry)) (now (categories .entry)) (now (datatypes .entry))) t ⌝ }
+    ensures { λ r. ⌜ r ≡ objectIn (objectsFrom (now (lives .entry)) (now (kinds .entry)) (now (levels .entry)) (now (categories .entry))
+        (now (datatypes .entry))) t ⌝ }
 {
     let label = Label::of(at(levels, t));
     Object {
@@ -625,31 +628,45 @@ impl Facility {
         self.with_process(p, Process::none()).with_closed_row(p)
     }
 
-    // The marks of process p on object t become v.
-    fn with_marks(mut self, p: u8, t: u8, v: u8) -> Facility
-        ensures { λ x. ⌜ x ≡ putOpens self (set (self .opens) (place p t) v) ⌝ }
+    // Process p becomes r and opens object t in the modes: one body, since each method by value copies the facility again.
+    pub fn opened(mut self, p: u8, r: Process, t: u8, modes: u8) -> Facility
+        ensures { λ x. ⌜ x ≡ opened (putProcess self p r) p t modes ⌝ }
     {
-        let i = (p as usize) * 128 + (t as usize);
-        if i < 4096 {
-            self.opens[i] = v;
+        let i = p as usize;
+        let k = mark_place(p, t) as usize;
+        if i < 32 {
+            self.runnings[i] = r.running;
+            self.owners[i] = r.owner;
+            self.currents[i] = r.current.level;
+            self.readmarks[i] = r.readmark.level;
+            self.writemarks[i] = r.writemark.level;
+            self.automatics[i] = r.automatic;
+            if k < 4096 {
+                let marks = at(&self.opens, k);
+                self.opens[k] = add_modes(marks, modes);
+            }
         }
         self
     }
 
-    // Process p opens object t in the modes.
-    pub fn opened(self, p: u8, t: u8, modes: u8) -> Facility
-        ensures { λ x. ⌜ x ≡ opened self p t modes ⌝ }
+    // Process p becomes r and closes object t, in the same way.
+    pub fn closed(mut self, p: u8, r: Process, t: u8) -> Facility
+        ensures { λ x. ⌜ x ≡ closed (putProcess self p r) p t ⌝ }
     {
-        let i = (p as usize) * 128 + (t as usize);
-        let marks = at(&self.opens, i);
-        self.with_marks(p, t, add_modes(marks, modes))
-    }
-
-    // Process p closes object t.
-    pub fn closed(self, p: u8, t: u8) -> Facility
-        ensures { λ x. ⌜ x ≡ closed self p t ⌝ }
-    {
-        self.with_marks(p, t, 0)
+        let i = p as usize;
+        let k = mark_place(p, t) as usize;
+        if i < 32 {
+            self.runnings[i] = r.running;
+            self.owners[i] = r.owner;
+            self.currents[i] = r.current.level;
+            self.readmarks[i] = r.readmark.level;
+            self.writemarks[i] = r.writemark.level;
+            self.automatics[i] = r.automatic;
+            if k < 4096 {
+                self.opens[k] = 0;
+            }
+        }
+        self
     }
 
     // Object t is deleted, with all opens on it.

@@ -1,12 +1,13 @@
 // Cases from standard input: a set-up behind its length in two bytes, then calls behind theirs in four, low byte first. Of a refused set-up
-// its line. Of an accepted one: what it gives written out into a buffer of its length and into one a byte shorter; the lines of the run
-// program; of how many calls query says what enforce does, and of what replay returns the counter of refusals, the objects entered, and the
-// length and a sum of the bytes of the set-up written out; then how many pairs of objects the account has of which the first holds the matter
-// of the second.
+// its line. Of an accepted one: what it gives written out into a buffer of its length and into one a byte shorter, and a line `touched` where
+// a byte that is to stay does not; the lines of the run program; of how many calls query says what enforce does, in number, answers and object
+// number, and of what replay returns the counter of refusals, the objects entered, and the length and a sum of the bytes of the set-up written
+// out; then how many pairs of objects the account has of which the first holds the matter of the second.
 ghost use Prim.Native.Nat.{_≤_};
 use libc::STDIN_FILENO;
 use libc::STDOUT_FILENO;
 use matter::Ledger;
+use state::Answers;
 use state::Facility;
 use state::Outcome;
 use state::SetupOutcome;
@@ -31,13 +32,20 @@ fn show_refused(number: u8, index: u8) {
     io::write_all(STDOUT_FILENO, &out[..n]);
 }
 
-// Whether two outcomes have the same number, combined answer and object.
+// The answers of the modules and the combined one as one number.
+fn answers_number(a: Answers) -> u64 {
+    let mac = a.mac;
+    let fc = a.fc;
+    let sim = a.sim;
+    let combined = a.combined;
+    let modules = (mac.code() as u64) + (fc.code() as u64) * 256 + (sim.code() as u64) * 65536;
+    modules + (combined.code() as u64) * 16777216
+}
+
+// Whether two outcomes have the same number, answers and object number.
 fn is_same(a: Outcome, b: Outcome) -> bool {
-    let x = a.answers();
-    let y = b.answers();
-    let p = x.combined;
-    let q = y.combined;
-    (a.number() == b.number()) & (p.code() == q.code()) & (a.object() == b.object())
+    let answers = answers_number(a.answers()) == answers_number(b.answers());
+    (a.number() == b.number()) & (answers & (a.object() == b.object()))
 }
 
 fn one_if(test: bool) -> u8
@@ -79,16 +87,43 @@ fn begins(a: &[u8], b: &[u8]) -> bool {
     true
 }
 
-// Writes an accepted set-up out into the first bytes of a buffer: number and length, and whether the buffer then begins with the set-up.
+// A byte that no set-up has.
+const OTHER: u8 = 165;
+
+// Whether each byte of a buffer from a place on is still the one that no set-up has.
+fn untouched(out: &[u8], from: usize) -> bool {
+    let mut i = from;
+    while i < out.len() {
+        if out[i] != OTHER {
+            return false;
+        }
+        i += 1;
+    }
+    true
+}
+
+// Whether a buffer holds a set-up, and is untouched behind it.
+fn holds_alone(s: &[u8], out: &[u8]) -> bool {
+    begins(s, out) & untouched(out, s.len())
+}
+
+// Writes an accepted set-up out into the first bytes of a buffer: number and length, and whether the buffer then holds the set-up alone, or
+// is untouched.
 fn write_into(f: Facility, s: &[u8], out: &mut [u8], room: usize) {
     if room <= out.len() {
         let w = setup::write_setup(f, &mut out[..room]);
         show_length(w);
-        if begins(s, out) {
-            io::write_all(STDOUT_FILENO, b"same\n");
-        } else {
-            io::write_all(STDOUT_FILENO, b"untouched\n");
-        }
+        show_buffer(s, out);
+    }
+}
+
+fn show_buffer(s: &[u8], out: &[u8]) {
+    if holds_alone(s, out) {
+        io::write_all(STDOUT_FILENO, b"same\n");
+    } else if untouched(out, 0) {
+        io::write_all(STDOUT_FILENO, b"untouched\n");
+    } else {
+        io::write_all(STDOUT_FILENO, b"touched\n");
     }
 }
 
@@ -105,8 +140,17 @@ fn show_length(w: WriteOutcome) {
 }
 
 fn write_back(f: Facility, s: &[u8], room: usize) {
-    let mut out = io::buffer();
+    let mut out = [OTHER; 4096];
     write_into(f, s, &mut out, room);
+}
+
+// A line where a set-up that is written out into a longer buffer touches a byte behind it.
+fn write_with_room(f: Facility, s: &[u8]) {
+    let mut out = [OTHER; 4096];
+    setup::write_setup(f, &mut out);
+    if !holds_alone(s, &out) {
+        io::write_all(STDOUT_FILENO, b"touched\n");
+    }
 }
 
 // The sum of (i + 1) times byte i over the first n bytes, modulo 4294967296, by sums of the bytes from each place on.
@@ -177,6 +221,7 @@ fn accepted(f: Facility, setup: &[u8], bytes: &[u8]) {
     if 0 < setup.len() {
         write_back(f, setup, setup.len() - 1);
     }
+    write_with_room(f, setup);
     let mut out = io::large_buffer();
     show_block(f, bytes, &mut out);
     show_state(calls::replay(setup, bytes), agreed(f, bytes));
@@ -194,8 +239,10 @@ fn one(setup: &[u8], bytes: &[u8]) {
 }
 
 // A number of two bytes, low byte first.
-fn two_bytes(low: u8, high: u8) -> u32 {
-    (low as u32) + (high as u32) * 256
+fn two_bytes(low: u8, high: u8) -> usize
+    ensures { λ r. ⌜ r ≤ 65535 ⌝ }
+{
+    (low as usize) + (high as usize) * 256
 }
 
 // Reads n bytes to the front of a buffer that holds them, and answers how many there were.
@@ -210,7 +257,7 @@ fn fill(bytes: &mut [u8], n: usize) -> usize {
 fn with_setup(setup: &[u8], bytes: &mut [u8]) {
     let mut b = [0u8; 4];
     io::read_full(STDIN_FILENO, &mut b);
-    let n = two_bytes(b[0], b[1]) as usize;
+    let n = two_bytes(b[0], b[1]) + two_bytes(b[2], b[3]) * 65536;
     fill(bytes, n);
     if n <= bytes.len() {
         one(setup, &bytes[..n]);
@@ -241,7 +288,7 @@ fn next(place: u64) -> bool {
     if io::read_full(STDIN_FILENO, &mut b) < 2 {
         return false;
     }
-    let n = two_bytes(b[0], b[1]) as usize;
+    let n = two_bytes(b[0], b[1]);
     io::write_all(STDOUT_FILENO, b"case ");
     show(place, b'\n');
     next_setup(n)

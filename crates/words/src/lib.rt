@@ -3,7 +3,9 @@ ghost use mathlib.Core.Path.{_≡_};
 ghost use Rattle.io.specs.Counts.{Counts};
 ghost use Rattle.rules.specs.Calls.{after};
 ghost use Rattle.text.specs.Stored.{Stored};
-ghost use Rattle.words.specs.Sentences.{answerText, answersText, createText, inText, levelWord, liveText, objectState, objectText, outcomeText, pairText, processText, runningText, sentence, sentenceText, setupSentence, targetText, whatText, whoText};
+ghost use Rattle.words.specs.Sentences.{answerText, answersText, createText, inText, levelWord, liveText, objectState, objectText};
+ghost use Rattle.words.specs.Sentences.{outcomeText, pairText, processText, runningText, sentence, sentenceText, setupSentence};
+ghost use Rattle.words.specs.Sentences.{targetText, whatText, whoText};
 use rules::Request;
 use rules::View;
 use state::Answer;
@@ -16,7 +18,7 @@ use state::Process;
 use state::User;
 
 // An object's level, or that it is unset.
-pub fn put_level(out: &mut [u8], place: usize, level: u8) -> usize
+fn put_level(out: &mut [u8], place: usize, level: u8) -> usize
     ensures { λ r. ⌜ Stored (now (out .entry)) place (levelWord level) (now (out .exit)) r ⌝ }
 {
     if level == 255 {
@@ -44,7 +46,7 @@ fn put_running(out: &mut [u8], place: usize, r: Process, u: User) -> usize
     put_pair(out, p4, b" to ", r.writemark.level)
 }
 
-pub fn put_process(out: &mut [u8], place: usize, r: Process, u: User) -> usize
+fn put_process(out: &mut [u8], place: usize, r: Process, u: User) -> usize
     ensures { λ x. ⌜ Stored (now (out .entry)) place (processText r u) (now (out .exit)) x ⌝ }
 {
     if r.running == 1 {
@@ -73,7 +75,7 @@ fn put_state(out: &mut [u8], place: usize, o: Object) -> usize
     text::put_text(out, place, b" (not live)")
 }
 
-pub fn put_object(out: &mut [u8], place: usize, t: u8, o: Object) -> usize
+fn put_object(out: &mut [u8], place: usize, t: u8, o: Object) -> usize
     ensures { λ x. ⌜ Stored (now (out .entry)) place (objectText t o) (now (out .exit)) x ⌝ }
 {
     let p1 = put_pair(out, place, b" object ", t);
@@ -100,7 +102,7 @@ fn put_create(out: &mut [u8], place: usize, e: u8, t: u8, o: Object) -> usize
 }
 
 // What a request is about.
-pub fn put_target(out: &mut [u8], place: usize, k: Request, c: Call, o: Object) -> usize
+fn put_target(out: &mut [u8], place: usize, k: Request, c: Call, o: Object) -> usize
     ensures { λ x. ⌜ Stored (now (out .entry)) place (targetText k c o) (now (out .exit)) x ⌝ }
 {
     match k {
@@ -173,7 +175,7 @@ fn put_outcome(out: &mut [u8], place: usize, o: Outcome) -> usize
 }
 
 // The line of a call by what it looked at, its outcome, and what it would look at after it.
-pub fn put_sentence(
+fn put_sentence(
     out: &mut [u8],
     place: usize,
     index: u64,

@@ -1,34 +1,19 @@
+-- Where a question up to the fifth refuses, its number is the call's; else the later questions give it.
+use borrow.Author.Needs.{needs}
+use Rattle.calls.specs.Parts.{outcomeIn, refused-first, outcome-later}
 use Rattle.calls.proofs.outcome_in.Statement.{statement}
 use Rattle.calls.proofs.outcome_in.Tie as tie
-use borrow.Author.Needs.{needs}
-use Rattle.calls.specs.Parts.{all-parts, outcomeIn}
-
-request-of-requires : tie.Need-request-of-requires
-request-of-requires c κs = search needs
-
-answers-requires : tie.Need-answers-requires
-answers-requires c κs = search needs
-
-number-after-requires : tie.Need-number-after-requires
-number-after-requires c κs = search needs
-
-object-given-requires : tie.Need-object-given-requires
-object-given-requires c κs = search needs
-
-of-requires : tie.Need-of-requires
-of-requires c κs = search needs
 
 returns : tie.Need-returns
 unfolding outcomeIn
-returns c = rw (c .of .ensures, c .before .object-given .ensures, c .before .before .number-after .ensures, c .before .before .before .answers .ensures, c .before .before .before .before .request-of .ensures, all-parts)
+returns c = refused-first _ _ _ _ (c .before .process-number .ensures) (c .if1 .taken)
+
+returns-2 : tie.Need-returns-2
+returns-2 c =
+    let first = c .before .before .before in
+    let a = first .before .args in
+    outcome-later (a .v) (a .c) _ _ _ (c .before .request-of .ensures) (first .process-number .ensures) (c .before .before .if1 .left)
+    (c .outcome-later .ensures)
 
 pub outcome-in-spec : {M : Type 1} → statement M
-outcome-in-spec =
-    tie.close
-    (tie.spec
-    request-of-requires
-    answers-requires
-    number-after-requires
-    object-given-requires
-    of-requires
-    returns)
+outcome-in-spec = tie.close (tie.spec (λ c κs. search needs) returns (λ c κs. search needs) (λ c κs. search needs) returns-2)

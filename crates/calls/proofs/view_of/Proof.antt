@@ -1,3 +1,4 @@
+-- Each part of the view is what its reader gives of the facility's arrays, which are lent.
 use Rattle.calls.proofs.view_of.Statement.{statement}
 use Rattle.calls.proofs.view_of.Tie as tie
 use Prim.Native.Nat.{ℕ}
@@ -7,8 +8,8 @@ use Rattle.state.specs.declared.Process.{Process}
 use Rattle.state.specs.Tests.{at}
 use Rattle.state.specs.State.{userOf, opensOf}
 
-place-requires : tie.Need-place-requires
-place-requires c κs = search needs
+mark-place-requires : tie.Need-mark-place-requires
+mark-place-requires c κs = search needs
 
 cast-p : tie.Need-cast-p
 cast-p c = search needs
@@ -36,24 +37,32 @@ at-requires c κs = search needs
 
 returns : tie.Need-returns
 unfolding opensOf
-returns c = λ i. record {
-  mac = c .before .before .before .before .before .before .before .before .before .before .before .before .before .before .before .before .before .before .before .before .before .before .before .before .before .before .before .before .before .before .before .before .before .before .before .before .before .before .before .before .before .before .before .before .before .before .before .before .before .before .before .before .before .before .before .before .args .t1 .mac;
-  fc = c .before .before .before .before .before .before .before .before .before .before .before .before .before .before .before .before .before .before .before .before .before .before .before .before .before .before .before .before .before .before .before .before .before .before .before .before .before .before .before .before .before .before .before .before .before .before .before .before .before .before .before .before .before .before .before .before .args .t1 .fc;
-  sim = c .before .before .before .before .before .before .before .before .before .before .before .before .before .before .before .before .before .before .before .before .before .before .before .before .before .before .before .before .before .before .before .before .before .before .before .before .before .before .before .before .before .before .before .before .before .before .before .before .before .before .before .before .before .before .before .before .args .t1 .sim;
-  users = c .before .before .before .before .before .before .before .before .before .before .before .before .before .before .before .before .before .before .before .before .before .before .before .before .before .before .before .before .before .before .before .before .before .before .before .before .before .before .before .before .before .before .before .before .before .before .before .before .before .before .before .before .before .before .before .before .args .t1 .users;
-  entered = c .before .before .before .before .before .before .before .before .before .before .before .before .before .before .before .before .before .before .before .before .before .before .before .before .before .before .before .before .before .before .before .before .before .before .before .before .before .before .before .before .before .before .before .before .before .before .before .before .before .before .before .before .before .before .before .before .args .t1 .entered;
-  caller = c .before .before .before .before .before .before .before .before .before .before .before .before .before .before .before .before .before .before .before .before .before .before .before .before .before .before .before .before .before .before .before .before .before .before .before .before .before .before .before .process-at .ensures i;
-  owner = (c .before .before .before .before .before .before .before .before .before .before .before .before .before .before .before .before .user-at .ensures ∙ ap (λ (r : Process). userOf (c .before .before .before .before .before .before .before .before .before .before .before .before .before .before .before .before .before .before .before .before .before .before .before .before .before .before .before .before .before .before .before .before .before .before .before .before .before .before .before .before .before .before .before .before .before .before .before .before .before .before .before .before .before .before .before .before .args .t1) (r .owner)) (c .before .before .before .before .before .before .before .before .before .before .before .before .before .before .before .before .before .before .before .before .before .before .before .before .before .before .before .before .before .before .before .before .before .before .before .before .before .before .before .process-at .ensures)) i;
-  receiver = c .before .before .before .before .before .before .before .before .before .before .before .before .before .before .before .before .before .before .before .before .before .before .before .before .before .process-at2 .ensures i;
-  object = c .before .before .before .before .object-at .ensures i;
-  opens = (c .at .ensures ∙ ap (λ (n : ℕ). at (c .before .before .before .before .before .before .before .before .before .before .before .before .before .before .before .before .before .before .before .before .before .before .before .before .before .before .before .before .before .before .before .before .before .before .before .before .before .before .before .before .before .before .before .before .before .before .before .before .before .before .before .before .before .before .before .before .args .t1 .opens) n) (c .before .before .before .before .before .before .before .before .before .before .before .before .before .before .before .before .before .before .before .before .before .before .before .before .before .before .before .before .before .before .before .before .before .before .before .before .before .before .before .before .before .before .before .before .before .before .before .before .before .before .before .before .before .before .before .place .ensures)) i;
-}
+returns c =
+    let object = c .before .before .before .before in
+    let owner = object .before .before .before .before .before .before .before .before .before .before .before .before in
+    let receiver = owner .before .before .before .before .before .before .before .before .before in
+    let caller = receiver .before .before .before .before .before .before .before .before .before .before .before .before .before .before in
+    let marks = caller .before .before .before .before .before .before .before .before .before .before .before .before .before .before .before .before in
+    let f = marks .before .args .t1 in
+    λ i. record {
+      mac = f .mac;
+      fc = f .fc;
+      sim = f .sim;
+      users = f .users;
+      entered = f .entered;
+      caller = caller .process-at .ensures i;
+      owner = (owner .user-at .ensures ∙ ap (λ (r : Process). userOf f (r .owner)) (caller .process-at .ensures)) i;
+      receiver = receiver .process-at2 .ensures i;
+      object = object .object-at .ensures i;
+      opens = (c .at .ensures ∙ ap (λ (n : ℕ). at (f .opens) n) (marks .mark-place .ensures)) i;
+    }
 
 pub view-of-spec : {M : Type 1} → statement M
 view-of-spec =
     tie.close
     (tie.spec
-    place-requires
+    mark-place-requires
+    (λ c. search needs)
     cast-p
     cast-t
     process-at-requires

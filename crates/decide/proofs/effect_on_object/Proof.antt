@@ -6,9 +6,6 @@ use Rattle.rules.specs.Effects.{effectFrom}
 moved-requires : tie.Need-moved-requires
 moved-requires c κs = search needs
 
-with-process-requires : tie.Need-with-process-requires
-with-process-requires c κs = search needs
-
 open-change-requires : tie.Need-open-change-requires
 open-change-requires c κs = search needs
 
@@ -17,9 +14,8 @@ open-by-requires c κs = search needs
 
 returns : tie.Need-returns
 unfolding effectFrom
-returns c = rw (c .open-by .ensures, c .before .open-change .ensures, c .before .before .with-process .ensures, c .before .before .before .moved .ensures)
+returns c = rw (c .open-by .ensures, c .before .open-change .ensures, c .before .before .moved .ensures)
 
 pub effect-on-object-spec : {M : Type 1} → statement M
 effect-on-object-spec =
-    tie.close
-    (tie.spec moved-requires with-process-requires open-change-requires open-by-requires returns)
+    tie.close (tie.spec moved-requires open-change-requires open-by-requires returns)

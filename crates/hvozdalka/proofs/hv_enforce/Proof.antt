@@ -4,7 +4,6 @@ use Rattle.rules.specs.declared.Enforced.{Enforced}
 use mathlib.Core.Path.{_∙_, ap}
 use borrow.Author.Needs.{needs}
 use Rattle.hvozdalka.specs.Numbers.{outcomeNumbers}
-use Rattle.rules.specs.Calls.{enforce}
 
 enforce-requires : tie.Need-enforce-requires
 enforce-requires c κs = search needs
@@ -13,7 +12,9 @@ outcome-numbers-requires : tie.Need-outcome-numbers-requires
 outcome-numbers-requires c κs = search needs
 
 returns : tie.Need-returns
-returns c = let e = c .before .before .enforce .ensures in λ i. record { facility = e i .facility; outcome = (c .outcome-numbers .ensures ∙ ap (λ (x : Enforced). outcomeNumbers (x .outcome)) e) i }
+returns c =
+    let e = c .before .before .enforce .ensures in
+    λ i. record { facility = e i .facility; outcome = (c .outcome-numbers .ensures ∙ ap (λ (x : Enforced). outcomeNumbers (x .outcome)) e) i }
 
 pub hv-enforce-spec : {M : Type 1} → statement M
 hv-enforce-spec = tie.close (tie.spec enforce-requires outcome-numbers-requires returns)

@@ -4,7 +4,6 @@ use Rattle.state.specs.declared.Outcome.{Outcome}
 use mathlib.Core.Path.{_∙_, ap}
 use borrow.Author.Needs.{needs}
 use Rattle.hvozdalka.specs.Numbers.{outcomeNumbers}
-use Rattle.rules.specs.Calls.{query}
 
 query-requires : tie.Need-query-requires
 query-requires c κs = search needs

@@ -3,7 +3,6 @@ use Rattle.hvozdalka.proofs.hv_read_setup.Tie as tie
 use Rattle.state.specs.declared.SetupOutcome.the-variants.{Accepted, Refused}
 use borrow.Author.Needs.{needs}
 use Rattle.hvozdalka.specs.Numbers.{reading-is}
-use Rattle.state.specs.Labels.{given}
 
 read-setup-requires : tie.Need-read-setup-requires
 read-setup-requires c κs = search needs
@@ -18,7 +17,9 @@ returns : tie.Need-returns
 returns c = reading-is _ _ Accepted (c .before .before .before .read-setup .ensures) (c .enum-told .given .1)
 
 returns-2 : tie.Need-returns-2
-returns-2 c = let o = c .before .outcome .given in reading-is _ _ (Refused (o .0 .0) (o .0 .1 .0)) (c .before .before .before .before .read-setup .ensures) (o .1)
+returns-2 c =
+    let o = c .before .outcome .given in
+    reading-is _ _ (Refused (o .0 .0) (o .0 .1 .0)) (c .before .before .before .before .read-setup .ensures) (o .1)
 
 pub hv-read-setup-spec : {M : Type 1} → statement M
 hv-read-setup-spec =

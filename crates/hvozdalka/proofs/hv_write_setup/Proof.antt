@@ -3,7 +3,6 @@ use Rattle.hvozdalka.proofs.hv_write_setup.Tie as tie
 use Rattle.state.specs.declared.WriteOutcome.the-variants.{Written, NoRoom}
 use borrow.Author.Needs.{needs}
 use Rattle.hvozdalka.specs.Numbers.{writing-is}
-use Rattle.state.specs.Labels.{given}
 
 write-setup-requires : tie.Need-write-setup-requires
 write-setup-requires c κs = search needs
@@ -18,7 +17,10 @@ same-length : tie.Need-same-length
 same-length c = search needs
 
 returns : tie.Need-returns
-returns c = let w = c .before .before .before .before .before .write-setup .ensures in let o = c .before .written .given in (writing-is _ _ (Written (o .0 .0)) (w .0) (o .1), w .1)
+returns c =
+    let w = c .before .before .before .before .before .write-setup .ensures in
+    let o = c .before .written .given in
+    (writing-is _ _ (Written (o .0 .0)) (w .0) (o .1), w .1)
 
 same-length-2 : tie.Need-same-length-2
 same-length-2 c = search needs

@@ -3,7 +3,6 @@ use Rattle.in_place.proofs.clone.Tie as tie
 use mathlib.Core.Path.{_∙_}
 use borrow.Author.Needs.{needs}
 use Rattle.in_place.specs.Changes.{cloned-is}
-use Rattle.rules.specs.Edges.{clone}
 
 process-in-requires : tie.Need-process-in-requires
 process-in-requires c κs = search needs
@@ -18,7 +17,12 @@ same-length : tie.Need-same-length
 same-length c = search needs
 
 returns : tie.Need-returns
-returns c = let a = c .before .before .before .before .before .before .before .before .before .before .before .args in (cloned-is (a .s .now) _ _ (a .p) (a .t) _ (c .before .before .before .before .before .before .before .before .process-in .ensures) (c .before .before .before .before .before .before .put-process .ensures .0) (c .before .before .copy-process .ensures .0), c .before .before .copy-process .ensures .1 ∙ c .before .before .before .before .before .before .put-process .ensures .1)
+returns c =
+    let a = c .before .before .before .before .before .before .before .before .before .before .before .args in (
+      cloned-is (a .s .now) _ _ (a .p) (a .t) _ (c .before .before .before .before .before .before .before .before .process-in .ensures)
+          (c .before .before .before .before .before .before .put-process .ensures .0) (c .before .before .copy-process .ensures .0),
+      c .before .before .copy-process .ensures .1 ∙ c .before .before .before .before .before .before .put-process .ensures .1,
+    )
 
 pub clone-spec : {M : Type 1} → statement M
 clone-spec =

@@ -12,13 +12,16 @@ use Rattle.state.specs.State.{putOpens, place}
 use Rattle.state.specs.Tests.{at}
 
 abbrev Inv-loop : tie.InvT-loop
-Inv-loop s₀ p t k₀ s k = (k ≤ 128) × (length s ≡ length s₀) × (facilityAt s ≡ putOpens (facilityAt s₀) (puts (facilityAt s₀ .opens) (λ j. place t j) (λ j. at (facilityAt s₀ .opens) (place p j)) k)) × (padding s ≡ padding s₀)
+Inv-loop s₀ p t k₀ s k = (k ≤ 128) × (length s ≡ length s₀) × (facilityAt s ≡ putOpens (facilityAt s₀)
+    (puts (facilityAt s₀ .opens) (λ j. place t j) (λ j. at (facilityAt s₀ .opens) (place p j)) k)) × (padding s ≡ padding s₀)
 
 abbrev μ-loop : tie.MeasureT-loop
 μ-loop s₀ p t k₀ s k = 128 - k
 
 loop-holds : tie.Need-loop-holds Inv-loop μ-loop
-loop-holds c = let a = c .before .args in (search needs, refl, folds-begin (a .s .now) (λ j. place (a .t) j) (λ j. at (facilityAt (a .s .now) .opens) (place (a .p) j)), refl)
+loop-holds c =
+    let a = c .before .args in
+    (search needs, refl, folds-begin (a .s .now) (λ j. place (a .t) j) (λ j. at (facilityAt (a .s .now) .opens) (place (a .p) j)), refl)
 
 opens-in-requires : tie.Need-opens-in-requires Inv-loop μ-loop
 opens-in-requires c κs = search needs
@@ -42,13 +45,30 @@ loop-less : tie.Need-loop-less Inv-loop μ-loop
 loop-less c = search needs
 
 loop-again : tie.Need-loop-again Inv-loop μ-loop
-loop-again c = let l = c .before .before .before .before .before .before .before .loop in let a = c .before .before .before .before .before .before .before .before .before .args in (search needs, c .before .before .put-in .kept .0 ∙ l .inv .1, copy-step (l .s) _ (facilityAt (a .s .now)) (facilityAt (a .s .now) .opens) (a .p) (a .t) (l .k) _ (c .before .before .before .before .before .before .before .before .before .pre) (search needs) (l .inv .2) (c .before .before .before .before .opens-in .ensures) (c .before .before .put-in .ensures), padding-marks (l .s) _ _ _ (c .before .before .put-in .ensures) ∙ l .inv .3)
+loop-again c =
+    let l = c .before .before .before .before .before .before .before .loop in
+    let a = c .before .before .before .before .before .before .before .before .before .args in (
+      search needs,
+      c .before .before .put-in .kept .0 ∙ l .inv .1,
+      copy-step (l .s) _ (facilityAt (a .s .now)) (facilityAt (a .s .now) .opens) (a .p) (a .t)
+          (l .k) _ (c .before .before .before .before .before .before .before .before .before .pre .1) (search needs) (l .inv .2)
+          (c .before .before .before .before .opens-in .ensures) (c .before .before .put-in .ensures),
+      padding-marks (l .s) _ _ _
+          (c .before .before .put-in .ensures) ∙ l .inv .3,
+    )
 
 same-length : tie.Need-same-length Inv-loop μ-loop
 same-length c = c .before .loop .inv .1
 
 returns : tie.Need-returns Inv-loop μ-loop
-returns c = let l = c .before .loop in let a = c .before .before .before .args in let e : l .k ≡ 128 = search needs in (l .inv .2 ∙ ap (λ (n : ℕ). putOpens (facilityAt (a .s .now)) (puts (facilityAt (a .s .now) .opens) (λ j. place (a .t) j) (λ j. at (facilityAt (a .s .now) .opens) (place (a .p) j)) n)) e, l .inv .3)
+returns c =
+    let l = c .before .loop in
+    let a = c .before .before .before .args in
+    let e : l .k ≡ 128 = search needs in (
+      l .inv .2 ∙ ap (λ (n : ℕ). putOpens (facilityAt (a .s .now)) (puts (facilityAt (a .s .now) .opens) (λ j. place (a .t) j)
+          (λ j. at (facilityAt (a .s .now) .opens) (place (a .p) j)) n)) e,
+      l .inv .3,
+    )
 
 pub copy-row-spec : {M : Type 1} → statement M
 copy-row-spec =

@@ -1,8 +1,6 @@
 use Rattle.in_place.proofs.enforce_in.Statement.{statement}
 use Rattle.in_place.proofs.enforce_in.Tie as tie
 use borrow.Author.Needs.{needs}
-use Rattle.rules.specs.Calls.{enforce}
-use Rattle.state.specs.Labels.{given}
 
 enforce-requires : tie.Need-enforce-requires
 enforce-requires c κs = search (needs, c .before .good, c .enforce-arg .given)

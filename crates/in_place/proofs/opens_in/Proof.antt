@@ -1,21 +1,18 @@
+-- The marks are the byte of the opens at their place.
+use Prim.Native.Nat.{ℕ}
+use mathlib.Core.Path.{_∙_, ap}
+use borrow.Author.Needs.{needs}
+use Rattle.in_place.specs.Layout.{facilityAt}
+use Rattle.state.specs.State.{opensOf}
+use Rattle.state.specs.Tests.{at}
 use Rattle.in_place.proofs.opens_in.Statement.{statement}
 use Rattle.in_place.proofs.opens_in.Tie as tie
-use borrow.Author.Needs.{needs}
-use Rattle.in_place.specs.Layout.{facilityAt, byte-in}
-use Rattle.state.specs.State.{opensOf}
-
-mul-byte-in : tie.Need-mul-byte-in
-mul-byte-in c = search needs
-
-add-byte-in : tie.Need-add-byte-in
-add-byte-in c = search needs
-
-byte-in-requires : tie.Need-byte-in-requires
-byte-in-requires c κs = search needs
 
 returns : tie.Need-returns
 unfolding facilityAt opensOf
-returns c = c .byte-in .ensures
+returns c =
+    let f = facilityAt (c .before .before .before .args .s .now) in
+    c .byte-in .ensures ∙ ap (λ (n : ℕ). at (f .opens) n) (c .before .mark-place .ensures)
 
 pub opens-in-spec : {M : Type 1} → statement M
-opens-in-spec = tie.close (tie.spec mul-byte-in add-byte-in byte-in-requires returns)
+opens-in-spec = tie.close (tie.spec (λ c κs. search needs) (λ c κs. search needs) returns)

@@ -5,7 +5,7 @@ use mathlib.Core.Path.{refl, _∙_}
 use native.Mathlib.Omega.{arith}
 use borrow.Author.Needs.{needs}
 use Rattle.in_place.specs.Changes.{refusals-put}
-use Rattle.in_place.specs.Layout.{fieldOf}
+use Rattle.in_place.specs.Layout.{fieldOf, theRefusals}
 use Rattle.in_place.specs.Stores.{stored, padding-fields}
 
 cast-put-in : tie.Need-cast-put-in
@@ -33,16 +33,20 @@ put-in-requires-4 : tie.Need-put-in-requires-4
 put-in-requires-4 c κs = search needs
 
 same-length : tie.Need-same-length
-same-length c = c .before .before .put-in4 .kept .0 ∙ c .before .before .before .before .before .before .put-in3 .kept .0 ∙ c .before .before .before .before .before .before .before .before .before .before .put-in2 .kept .0 ∙ c .before .before .before .before .before .before .before .before .before .before .before .before .before .before .put-in .kept .0
+same-length c = c .before .before .put-in4 .kept .0 ∙ c .before .before .before .before .before .before .put-in3 .kept .0
+    ∙ c .before .before .before .before .before .before .before .before .before .before .put-in2 .kept .0
+    ∙ c .before .before .before .before .before .before .before .before .before .before .before .before .before .before .put-in .kept .0
 
 returns : tie.Need-returns
 returns c = let x = c .before .before .before .before .before .before .before .before .before .before .before .before .before .before .before .before .before in
     let a = x .args in
     let n = a .n in
-    let f0 = stored (a .s .now) _ (fieldOf (a .s .now)) 21 0 (n % 256) refl (c .before .before .before .before .before .before .before .before .before .before .before .before .before .before .put-in .ensures) in
-    let f1 = stored _ _ _ 21 1 (n / 256 % 256) f0 (c .before .before .before .before .before .before .before .before .before .before .put-in2 .ensures) in
-    let f2 = stored _ _ _ 21 2 (n / 65536 % 256) f1 (c .before .before .before .before .before .before .put-in3 .ensures) in
-    let f3 = stored _ _ _ 21 3 (n / 16777216) f2 (c .before .before .put-in4 .ensures) in
+    let f0 = stored (a .s .now) _ (fieldOf (a .s .now)) theRefusals 0 (n % 256) refl
+    (c .before .before .before .before .before .before .before .before .before .before .before .before .before .before .put-in .ensures) in
+    let f1 = stored _ _ _ theRefusals 1 (n / 256 % 256) f0 (c .before .before .before .before .before .before .before .before .before .before .put-in2
+    .ensures) in
+    let f2 = stored _ _ _ theRefusals 2 (n / 65536 % 256) f1 (c .before .before .before .before .before .before .put-in3 .ensures) in
+    let f3 = stored _ _ _ theRefusals 3 (n / 16777216) f2 (c .before .before .put-in4 .ensures) in
     (refusals-put (a .s .now) _ (n % 256) (n / 256 % 256) (n / 65536 % 256) (n / 16777216) n (x .pre) f3 (omega arith), padding-fields (a .s .now) _ _ f3 refl)
 
 pub put-refusals-spec : {M : Type 1} → statement M

@@ -6,7 +6,6 @@ use native.Mathlib.Omega.{arith}
 use borrow.Author.Needs.{needs}
 use Rattle.lines.specs.Printed.{linesOf, short-most}
 use Rattle.rules.specs.Lines.{shortLine}
-use Rattle.rules.specs.Matter.{start}
 use Rattle.text.specs.Stored.{then, counts}
 
 put-lines-requires : tie.Need-put-lines-requires

@@ -2,7 +2,6 @@ use Rattle.lines.proofs.put_level.Statement.{statement}
 use Rattle.lines.proofs.put_level.Tie as tie
 use borrow.Author.Needs.{needs}
 use Rattle.lines.specs.Texts.{levelPart, level-runs, level-none}
-use Rattle.setup.specs.Scanned.{left}
 use Rattle.state.specs.State.{place}
 use Rattle.text.specs.Stored.{as-text}
 
@@ -13,7 +12,10 @@ same-length : tie.Need-same-length
 same-length c = search needs
 
 returns : tie.Need-returns
-returns c = let a = c .before .before .before .before .before .before .args in as-text (a .out .now) _ _ (levelPart (a .running) (a .level)) (a .place) _ (level-runs (a .running) (a .level) (c .before .before .before .before .if1 .taken)) (c .before .before .put-decimal .ensures)
+returns c =
+    let a = c .before .before .before .before .before .before .args in
+    as-text (a .out .now) _ _ (levelPart (a .running) (a .level)) (a .place) _
+    (level-runs (a .running) (a .level) (c .before .before .before .before .if1 .taken)) (c .before .before .put-decimal .ensures)
 
 slice-aggregate-put-text : tie.Need-slice-aggregate-put-text
 slice-aggregate-put-text c = search needs
@@ -25,7 +27,10 @@ same-length-2 : tie.Need-same-length-2
 same-length-2 c = search needs
 
 returns-2 : tie.Need-returns-2
-returns-2 c = let a = c .before .before .before .before .before .before .before .args in as-text (a .out .now) _ _ (levelPart (a .running) (a .level)) (a .place) _ (level-none (a .running) (a .level) (c .before .before .before .before .before .if1 .left)) (c .before .before .put-text .ensures)
+returns-2 c =
+    let a = c .before .before .before .before .before .before .before .args in
+    as-text (a .out .now) _ _ (levelPart (a .running) (a .level)) (a .place) _
+    (level-none (a .running) (a .level) (c .before .before .before .before .before .if1 .left)) (c .before .before .put-text .ensures)
 
 pub put-level-spec : {M : Type 1} → statement M
 put-level-spec =

@@ -3,7 +3,6 @@ use Rattle.lines.proofs.put_short.Tie as tie
 use borrow.Author.Needs.{needs}
 use Rattle.lines.specs.Printed.{not-short, is-short}
 use Rattle.rules.specs.Lines.{shortLine}
-use Rattle.setup.specs.Scanned.{left}
 use Rattle.text.specs.Stored.{as-text}
 
 slice-aggregate-put-text : tie.Need-slice-aggregate-put-text
@@ -16,7 +15,10 @@ same-length : tie.Need-same-length
 same-length c = search needs
 
 returns : tie.Need-returns
-returns c = let a = c .before .before .before .before .before .before .before .before .args in as-text (a .out .now) _ _ (shortLine (a .calls .now)) (a .place) _ (not-short (a .calls .now) (c .before .before .before .before .before .if1 .taken)) (c .before .before .put-text .ensures)
+returns c =
+    let a = c .before .before .before .before .before .before .before .before .args in
+    as-text (a .out .now) _ _ (shortLine (a .calls .now)) (a .place) _ (not-short (a .calls .now) (c .before .before .before .before .before .if1 .taken))
+    (c .before .before .put-text .ensures)
 
 slice-aggregate-put-text-2 : tie.Need-slice-aggregate-put-text-2
 slice-aggregate-put-text-2 c = search needs
@@ -28,7 +30,10 @@ same-length-2 : tie.Need-same-length-2
 same-length-2 c = search needs
 
 returns-2 : tie.Need-returns-2
-returns-2 c = let a = c .before .before .before .before .before .before .before .before .args in as-text (a .out .now) _ _ (shortLine (a .calls .now)) (a .place) _ (is-short (a .calls .now) (c .before .before .before .before .before .if1 .left)) (c .before .before .put-text2 .ensures)
+returns-2 c =
+    let a = c .before .before .before .before .before .before .before .before .args in
+    as-text (a .out .now) _ _ (shortLine (a .calls .now)) (a .place) _ (is-short (a .calls .now) (c .before .before .before .before .before .if1 .left))
+    (c .before .before .put-text2 .ensures)
 
 pub put-short-spec : {M : Type 1} → statement M
 put-short-spec =

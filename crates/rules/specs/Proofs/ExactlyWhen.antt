@@ -14,10 +14,11 @@ use Rattle.state.specs.Outcomes.{answersFrom}
 use Rattle.state.specs.State.{objectOf, trustedUser, labelOf, clearanceOf, reading, writing, putProcess, freshProcess}
 use Rattle.state.specs.Labels.{lawful, given, _⊑_, ⊑-refl, join-least, bottom-least, below-lawful, lawful-given}
 use Rattle.state.specs.Answers.{passes, grant-passes}
-use Rattle.rules.specs.Flow.{allFourBytes, Carries, ExactlyWhen}
+use Rattle.rules.specs.Flow.{allFourBytes, loginsBy, Carries, ExactlyWhen}
 use Rattle.rules.specs.Effects.{effectFrom, effectBy}
 use Rattle.rules.specs.Calls.{accepted, trustedLogins}
-use Rattle.rules.specs.Requests.{Login, Reads, Writes, Both, NoCondition, Keep, Add, requestOf, files, directories, channels, controlData, listOf, classAmong, classOf, openChange}
+use Rattle.rules.specs.Requests.{Login, Reads, Writes, Both, NoCondition, Keep, Add, isLogin, requestOf}
+use Rattle.rules.specs.Computed.{requestsComputed}
 use Rattle.rules.specs.Setup.{fresh}
 use Rattle.rules.specs.Matter.{Account, start, assign, carryBy, account, history}
 use Rattle.rules.specs.Modules.{viewOf, mayRead, mayWrite, macClass, macRule, macAnswer, fcAnswer, simAnswer, answers, moveBy}
@@ -25,7 +26,8 @@ use Rattle.rules.specs.Questions.{numberBy}
 use Rattle.rules.specs.Proofs.Regular.{allowed-kind, allowed-clearance}
 use Rattle.rules.specs.Proofs.Kept.{kept-run}
 use Rattle.rules.specs.Proofs.Fresh.{Fresh, fresh-setup}
-use Rattle.rules.specs.Proofs.Witness.{by, Scene, Reach, reach-call, carry-keeps, carry-keeps-object, carry-takes, carry-gives, reach-target, open-to-read, open-to-write}
+use Rattle.rules.specs.Proofs.Witness.{by, Scene, Reach, reach-call, carry-keeps, carry-keeps-object}
+use Rattle.rules.specs.Proofs.Witness.{carry-takes, carry-gives, reach-target, open-to-read, open-to-write}
 use Rattle.rules.specs.Proofs.OnlyWhen.{only-when}
 use Rattle.rules.specs.Proofs.Passed.{all-passed}
 
@@ -68,6 +70,30 @@ write-bytes kind t h =
     (λ e. by-test (eqb kind 1) (λ d. rw (e, d) (zero-bytes 19 t [] refl h no-bytes))
     (λ d. by-test (eqb kind 2) (λ g. rw (e, d, g) (zero-bytes 14 t _ refl h (zero-bytes 19 t [] refl h no-bytes)))
     (λ g. rw (e, d, g) (zero-bytes 11 t [] refl h no-bytes))))
+
+-- a call that is no login asks nothing of the user
+module _ (u : ℕ) where
+  no-logins : loginsBy u [] ≡ true
+  unfolding loginsBy
+  no-logins = refl
+
+  no-login : (q t : ℕ) (cs : List Call) → isLogin (requestOf q) ≡ false → loginsBy u cs ≡ true → loginsBy u (by 0 q t ∷ cs) ≡ true
+  unfolding loginsBy
+  no-login q t cs h b = and-i _ _ (rw h) b
+
+  read-logins : (kind t : ℕ) (rest : List Call) → loginsBy u rest ≡ true → loginsBy u (readCalls kind t rest) ≡ true
+  unfolding readCalls requestOf
+  read-logins kind t rest b =
+      by-test (eqb kind 0) (λ e. rw e (no-login 13 t _ refl (no-login 12 t _ refl b)))
+      (λ e. by-test (eqb kind 1) (λ d. rw (e, d) (no-login 12 t _ refl b)) (λ d. rw (e, d) (no-login 8 t _ refl b)))
+
+  write-logins : (kind t : ℕ) → loginsBy u (writeCalls kind t) ≡ true
+  unfolding writeCalls requestOf
+  write-logins kind t =
+      by-test (eqb kind 0) (λ e. rw e (no-login 20 t _ refl (no-login 19 t [] refl no-logins)))
+      (λ e. by-test (eqb kind 1) (λ d. rw (e, d) (no-login 19 t [] refl no-logins))
+      (λ d. by-test (eqb kind 2) (λ g. rw (e, d, g) (no-login 14 t _ refl (no-login 19 t [] refl no-logins)))
+      (λ g. rw (e, d, g) (no-login 11 t [] refl no-logins))))
 
 module _ (f₀ : Facility) (F : Fresh f₀) (u x y : ℕ) (hx : x < f₀ .entered) (hy : y < f₀ .entered) (nx : (objectOf f₀ x) .kind ≢ 2)
     (hu : u < f₀ .users) (tu : trustedUser f₀ u ≡ false) (cx : labelOf f₀ x ⊑ clearanceOf f₀ u) (cy : labelOf f₀ y ⊑ clearanceOf f₀ u)
@@ -113,7 +139,7 @@ module _ (f₀ : Facility) (F : Fresh f₀) (u x y : ℕ) (hx : x < f₀ .entere
   reach-read : (f : Facility) (a : Account) (rest : List Call) → Scene 0 f₀ f a u (freshProcess u) → a .objects x x ≡ true
       → ((g : Facility) (d : Account) → Scene 0 f₀ g d u (moveBy Reads (labelOf f₀ x) (freshProcess u)) → d .processes 0 x ≡ true → Reach g d rest y x)
       → Reach f a (readCalls ((objectOf f₀ x) .kind) x rest) y x
-  unfolding readCalls requestOf openChange classOf files directories channels controlData listOf classAmong macClass passes moveBy reading
+  unfolding readCalls requestsComputed macClass passes moveBy reading
   reach-read f a rest S self K =
       by-eq ((objectOf f₀ x) .kind) 0
       (λ e. rw e
@@ -121,7 +147,16 @@ module _ (f₀ : Facility) (F : Fresh f₀) (u x y : ℕ) (hx : x < f₀ .entere
       (record { target = refl; known = refl; alive = F .whole x hx; class = rw e refl; there = refl; opened = refl; labelled = gx; granted = may-read })
       refl refl (by 0 12 x ∷ rest) y x
       (λ S1. reach-target 0 f₀ _ _ u _ 12 x NoCondition Keep S1
-      (record { target = refl; known = refl; alive = F .whole x hx; class = rw e refl; there = refl; opened = open-to-read 0 f _ x 1 (S .shaped) (S .small) small-x refl; labelled = gx; granted = refl })
+      (record {
+        target = refl;
+        known = refl;
+        alive = F .whole x hx;
+        class = rw e refl;
+        there = refl;
+        opened = open-to-read 0 f _ x 1 (S .shaped) (S .small) small-x refl;
+        labelled = gx;
+        granted = refl;
+      })
       refl refl rest y x
       (λ S2. K _ _ S2 (carry-takes 0 _ 12 x NoCondition x refl (carry-keeps-object 0 a 13 x Reads x x self))))))
       (λ n0. by-eq ((objectOf f₀ x) .kind) 1
@@ -140,36 +175,90 @@ module _ (f₀ : Facility) (F : Fresh f₀) (u x y : ℕ) (hx : x < f₀ .entere
   -- after the writing, y holds x
   reach-write : (f : Facility) (a : Account) → Scene 0 f₀ f a u (moveBy Reads (labelOf f₀ x) (freshProcess u)) → a .processes 0 x ≡ true
       → Reach f a (writeCalls ((objectOf f₀ y) .kind) y) y x
-  unfolding writeCalls requestOf openChange classOf files directories channels controlData listOf classAmong macClass passes writing trustedLogins account history _and_
+  unfolding writeCalls requestsComputed macClass passes writing trustedLogins account history _and_
   reach-write f a S has =
       by-eq ((objectOf f₀ y) .kind) 0
       (λ e. rw e
       (reach-target 0 f₀ f a u _ 20 y Writes (Add 2) S
-      (record { target = refl; known = refl; alive = F .whole y hy; class = rw e refl; there = refl; opened = refl; labelled = gy; granted = grant-passes _ may-write })
+      (record {
+        target = refl;
+        known = refl;
+        alive = F .whole y hy;
+        class = rw e refl;
+        there = refl;
+        opened = refl;
+        labelled = gy;
+        granted = grant-passes _ may-write;
+      })
       refl refl (by 0 19 y ∷ []) y x
       (λ S1. reach-target 0 f₀ _ _ u _ 19 y NoCondition Keep S1
-      (record { target = refl; known = refl; alive = F .whole y hy; class = rw e refl; there = refl; opened = open-to-write 0 f _ y 2 (S .shaped) (S .small) small-y refl; labelled = gy; granted = refl })
+      (record {
+        target = refl;
+        known = refl;
+        alive = F .whole y hy;
+        class = rw e refl;
+        there = refl;
+        opened = open-to-write 0 f _ y 2 (S .shaped) (S .small) small-y refl;
+        labelled = gy;
+        granted = refl;
+      })
       refl refl [] y x
       (λ S2. record { untrusted = refl; holding = carry-gives 0 _ 19 y NoCondition x refl refl (carry-keeps 0 a 20 y Writes x has) }))))
       (λ n0. by-eq ((objectOf f₀ y) .kind) 1
       (λ e. rw e
       (reach-target 0 f₀ f a u _ 19 y Writes Keep S
-      (record { target = refl; known = refl; alive = F .whole y hy; class = rw e refl; there = refl; opened = refl; labelled = gy; granted = grant-passes _ may-write })
+      (record {
+        target = refl;
+        known = refl;
+        alive = F .whole y hy;
+        class = rw e refl;
+        there = refl;
+        opened = refl;
+        labelled = gy;
+        granted = grant-passes _ may-write;
+      })
       refl refl [] y x
       (λ S1. record { untrusted = refl; holding = carry-gives 0 a 19 y Writes x refl refl has })))
       (λ n1. by-eq ((objectOf f₀ y) .kind) 2
       (λ e. rw e
       (reach-target 0 f₀ f a u _ 14 y Both (Add 3) S
-      (record { target = refl; known = refl; alive = F .whole y hy; class = rw e refl; there = refl; opened = refl; labelled = gy; granted = grant-passes _ may-write })
+      (record {
+        target = refl;
+        known = refl;
+        alive = F .whole y hy;
+        class = rw e refl;
+        there = refl;
+        opened = refl;
+        labelled = gy;
+        granted = grant-passes _ may-write;
+      })
       refl refl (by 0 19 y ∷ []) y x
       (λ S1. reach-target 0 f₀ _ _ u _ 19 y NoCondition Keep S1
-      (record { target = refl; known = refl; alive = F .whole y hy; class = rw e refl; there = refl; opened = open-to-write 0 f _ y 3 (S .shaped) (S .small) small-y refl; labelled = gy; granted = refl })
+      (record {
+        target = refl;
+        known = refl;
+        alive = F .whole y hy;
+        class = rw e refl;
+        there = refl;
+        opened = open-to-write 0 f _ y 3 (S .shaped) (S .small) small-y refl;
+        labelled = gy;
+        granted = refl;
+      })
       refl refl [] y x
       (λ S2. record { untrusted = refl; holding = carry-gives 0 _ 19 y NoCondition x refl refl (carry-keeps 0 a 14 y Both x has) }))))
       (λ n2. let e : (objectOf f₀ y) .kind ≡ 3 = omega (arith, kind-y) in
       rw e
       (reach-target 0 f₀ f a u _ 11 y Writes Keep S
-      (record { target = refl; known = refl; alive = F .whole y hy; class = rw e refl; there = refl; opened = refl; labelled = gy; granted = grant-passes _ may-write })
+      (record {
+        target = refl;
+        known = refl;
+        alive = F .whole y hy;
+        class = rw e refl;
+        there = refl;
+        opened = refl;
+        labelled = gy;
+        granted = grant-passes _ may-write;
+      })
       refl refl [] y x
       (λ S1. record { untrusted = refl; holding = carry-gives 0 a 11 y Writes x refl refl has })))))
 
@@ -240,19 +329,24 @@ module _ (f₀ : Facility) (F : Fresh f₀) (u x y : ℕ) (hx : x < f₀ .entere
     unfolding witness allFourBytes login
     witness-bytes =
         and-i _ _ (and-i _ _ refl (and-i _ _ refl (and-i _ _ refl (lt-ltb u 256 (omega (arith, F .regular .sound .users))))))
-        (read-bytes _ x _ (lt-ltb x 256 (omega (arith, F .regular .sound .entered))) (write-bytes _ y (lt-ltb y 256 (omega (arith, F .regular .sound .entered)))))
+        (read-bytes _ x _ (lt-ltb x 256 (omega (arith, F .regular .sound .entered)))
+        (write-bytes _ y (lt-ltb y 256 (omega (arith, F .regular .sound .entered)))))
+
+    witness-logins : loginsBy u witness ≡ true
+    unfolding witness loginsBy login requestOf
+    witness-logins = and-i _ _ (eq-eqb u u refl) (read-logins u _ x _ (write-logins u _ y))
 
 pub exactly-when : ExactlyWhen
 exactly-when s m fc sim a b ha hb na u C = (rises, falls)
   where
-    rises : Carries s a b → labelOf (fresh s) a ⊑ labelOf (fresh s) b
+    rises : Carries s u a b → labelOf (fresh s) a ⊑ labelOf (fresh s) b
     rises W =
         by-eq b a
         (λ e. subst⁻¹ (λ (k : ℕ). labelOf (fresh s) a ⊑ labelOf (fresh s) k) e (⊑-refl _))
         (λ n. subst₂ _⊑_ (kept-run (W .calls) (fresh s) a ha .label) (kept-run (W .calls) (fresh s) b hb .label)
         (only-when s m (W .calls) (W .untrusted) a b (W .holding) n .above))
 
-    falls : labelOf (fresh s) a ⊑ labelOf (fresh s) b → Carries s a b
+    falls : labelOf (fresh s) a ⊑ labelOf (fresh s) b → Carries s u a b
     falls h =
         let F = fresh-setup s in
         let hu = ltb-true _ _ (C .user) in
@@ -260,6 +354,7 @@ exactly-when s m fc sim a b ha hb na u C = (rises, falls)
         record {
           calls = witness (fresh s) F u a b ha hb na hu (C .untrusted) (C .first) (C .second) h m fc sim;
           four = witness-bytes (fresh s) F u a b ha hb na hu (C .untrusted) (C .first) (C .second) h m fc sim;
+          logins = witness-logins (fresh s) F u a b ha hb na hu (C .untrusted) (C .first) (C .second) h m fc sim;
           untrusted = R .untrusted;
           holding = R .holding;
         }

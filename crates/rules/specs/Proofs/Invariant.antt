@@ -12,7 +12,8 @@ use borrow.Author.Tests.{eqb-true, eq-eqb, ne-eqb}
 use Rattle.rules.specs.Types.{Process, Object, Facility}
 use Rattle.state.specs.Tests.{at, on, or-cases, by-test, by-eq}
 use Rattle.state.specs.Views.{Shaped, process-same, process-other, object-new, object-old}
-use Rattle.state.specs.State.{mostProcesses, mostObjects, mostOpens, objectIn, processOf, objectOf, runs, trustedUser, labelOf, place, opensOf, reading, writing, putProcess, putOpens, putObject, dropObject, putRefusals, counted}
+use Rattle.state.specs.State.{mostProcesses, mostObjects, mostOpens, objectIn, processOf, objectOf, runs, trustedUser, labelOf, opensOf, reading, writing}
+use Rattle.state.specs.State.{putProcess, putOpens, putObject, dropObject, putRefusals, counted}
 use Rattle.state.specs.Labels.{Label, given, _⊑_, ⊑-trans}
 use Rattle.rules.specs.Flow.{Above}
 use Rattle.rules.specs.Matter.{Set, only, put, Account, processGains, objectGains, assign, enter}
@@ -83,8 +84,8 @@ inv-process f a p r I h F =
 
 -- the opens are replaced
 pub inv-opens : (f : Facility) (a : Account) (l : List ℕ) → Inv f a → length l ≡ mostOpens
-    → ((p t : ℕ) → t < mostObjects → reading (at l (place p t)) ≡ true → (runs f p ≡ true) × Knows (f .entered) (labelOf f t) t (processOf f p))
-    → ((p t : ℕ) → t < mostObjects → writing (at l (place p t)) ≡ true → (runs f p ≡ true) × Reaches (f .entered) (labelOf f t) t (processOf f p))
+    → ((p t : ℕ) → t < mostObjects → reading (opensOf (putOpens f l) p t) ≡ true → (runs f p ≡ true) × Knows (f .entered) (labelOf f t) t (processOf f p))
+    → ((p t : ℕ) → t < mostObjects → writing (opensOf (putOpens f l) p t) ≡ true → (runs f p ≡ true) × Reaches (f .entered) (labelOf f t) t (processOf f p))
     → Inv (putOpens f l) a
 unfolding putOpens opensOf
 inv-opens f a l I h R W =

@@ -1,18 +1,19 @@
 -- The invariant under the ways in which opens change.
 use Prim.Native.Nat.{ℕ, _/_, _%_, _≤_, _<_}
-use mathlib.Core.Path.{_≡_, refl, sym, _∙_, ap, subst, subst⁻¹}
+use mathlib.Core.Path.{_≡_, refl, sym, _∙_, ap, subst⁻¹}
 use mathlib.Core.Logic.{_≢_}
 use mathlib.Core.Bool.{true, false}
 use mathlib.Core.List.{List}
 use lib.Dec.{ltb, eqb}
-use lib.ListN.{length, set, length-set, List·getD-eq-default}
-use lib.Seq.{getD-set-same, getD-set-other}
+use lib.ListN.{length, length-set, List·getD-eq-default}
 use native.Mathlib.Omega.{arith}
 use borrow.Author.Tests.{ltb-true, ltb-false, eqb-true}
 use Rattle.rules.specs.Types.{Process, Facility}
 use Rattle.state.specs.Tests.{at, on, or-cases, clash, by-test, by-eq}
-use Rattle.state.specs.Views.{length-build, at-build, place-below, place-object, place-process, reading-add, writing-add}
-use Rattle.state.specs.State.{mostProcesses, mostObjects, mostOpens, processOf, runs, labelOf, place, opensOf, reading, writing, addModes, build, closeObject, closeProcess, copyProcess, putOpens}
+use Rattle.state.specs.Outside.{OnePair, one-pair}
+use Rattle.state.specs.Views.{length-build, at-build, place-below, place-object, place-process, opens-at, opens-put, reading-add, writing-add}
+use Rattle.state.specs.State.{mostProcesses, mostObjects, mostOpens, processOf, runs, labelOf, place, opensOf, reading, writing, addModes, build}
+use Rattle.state.specs.State.{closeObject, closeProcess, copyProcess, putOpens, putMarks}
 use Rattle.rules.specs.Matter.{Account}
 use Rattle.rules.specs.Proofs.Invariant.{Knows, Reaches, Inv, inv-opens}
 
@@ -37,31 +38,24 @@ pub not-writing : {v : ℕ} {A : Type 0} → v ≡ 0 → writing v ≡ true → 
 unfolding writing
 not-writing e h = clash (rw e at h) refl
 
--- one byte of opens is set
+-- the opens of one pair are set
 pub inv-mark : (f : Facility) (a : Account) (p t v : ℕ) → Inv f a → p < mostProcesses → t < mostObjects
     → (reading v ≡ true → MayRead f p t) → (writing v ≡ true → MayWrite f p t)
-    → Inv (putOpens f (set (f .opens) (place p t) v)) a
-unfolding opensOf
+    → Inv (putMarks f p t v) a
 inv-mark f a p t v I hp ht R W =
     inv-opens f a _ I (simp length-set (I .sound .shaped .opens))
-    (λ q u hu m. split q u hu
-    (λ e. subst (λ (x : ℕ). MayRead f x u) (same-p q u hu e) (subst (λ (x : ℕ). MayRead f p x) (same-t q u hu e) (R (rw (e, now) at m))))
-    (λ n. I .process q .readable u hu (rw (getD-set-other (f .opens) (place p t) (place q u) v 0 n) at m)))
-    (λ q u hu m. split q u hu
-    (λ e. subst (λ (x : ℕ). MayWrite f x u) (same-p q u hu e) (subst (λ (x : ℕ). MayWrite f p x) (same-t q u hu e) (W (rw (e, now) at m))))
-    (λ n. I .process q .writable u hu (rw (getD-set-other (f .opens) (place p t) (place q u) v 0 n) at m)))
+    (λ q u hu m. split q u
+    (λ e d. rw (e, d) (R (rw (e, d, pair .same p t v hp ht) at m)))
+    (λ n. I .process q .readable u hu (rw (pair .other p t v q u n) at m)))
+    (λ q u hu m. split q u
+    (λ e d. rw (e, d) (W (rw (e, d, pair .same p t v hp ht) at m)))
+    (λ n. I .process q .writable u hu (rw (pair .other p t v q u n) at m)))
   where
-    now : at (set (f .opens) (place p t) v) (place p t) ≡ v
-    now = getD-set-same (f .opens) (place p t) v 0 (omega (arith, I .sound .shaped .opens))
+    pair : OnePair f
+    pair = one-pair f (I .sound .shaped)
 
-    same-p : (q u : ℕ) → u < mostObjects → place q u ≡ place p t → p ≡ q
-    same-p q u hu e = omega arith
-
-    same-t : (q u : ℕ) → u < mostObjects → place q u ≡ place p t → t ≡ u
-    same-t q u hu e = omega arith
-
-    split : (q u : ℕ) → u < mostObjects → {A : Type 0} → (place q u ≡ place p t → A) → (place q u ≢ place p t → A) → A
-    split q u hu yes' no' = by-eq (place q u) (place p t) yes' no'
+    split : (q u : ℕ) → {A : Type 0} → (q ≡ p → u ≡ t → A) → ((q ≡ p → u ≢ t) → A) → A
+    split q u same' other' = by-eq q p (λ e. by-eq u t (λ d. same' e d) (λ d. other' (λ _. d))) (λ e. other' (λ d. absurd (e d)))
 
 -- all opens are given by a rule
 pub inv-rule : (f : Facility) (a : Account) (g : ℕ → ℕ) → Inv f a
@@ -71,51 +65,63 @@ pub inv-rule : (f : Facility) (a : Account) (g : ℕ → ℕ) → Inv f a
 inv-rule f a g I R W =
     inv-opens f a _ I (length-build mostOpens g)
     (λ p t h m. by-test (ltb p mostProcesses)
-    (λ e. let b = ltb-true p mostProcesses e in R p t b h (rw (at-build mostOpens g (place p t) (place-below p t b h)) at m))
-    (λ e. not-reading (outside (build mostOpens g) p t (length-build mostOpens g) e) m))
+    (λ e. let b = ltb-true p mostProcesses e in R p t b h (rw (
+      opens-put f (build mostOpens g) p t h,
+      at-build mostOpens g (place p t)
+          (place-below p t b h),
+    ) at m))
+    (λ e. not-reading (outside (build mostOpens g) p t (length-build mostOpens g) e) (rw (opens-put f (build mostOpens g) p t h) at m)))
     (λ p t h m. by-test (ltb p mostProcesses)
-    (λ e. let b = ltb-true p mostProcesses e in W p t b h (rw (at-build mostOpens g (place p t) (place-below p t b h)) at m))
-    (λ e. not-writing (outside (build mostOpens g) p t (length-build mostOpens g) e) m))
+    (λ e. let b = ltb-true p mostProcesses e in W p t b h (rw (
+      opens-put f (build mostOpens g) p t h,
+      at-build mostOpens g (place p t)
+          (place-below p t b h),
+    ) at m))
+    (λ e. not-writing (outside (build mostOpens g) p t (length-build mostOpens g) e) (rw (opens-put f (build mostOpens g) p t h) at m)))
 
 -- marks are added
 pub inv-add : (f : Facility) (a : Account) (p t m : ℕ) → Inv f a → p < mostProcesses → t < mostObjects
     → (reading m ≡ true → MayRead f p t) → (writing m ≡ true → MayWrite f p t)
-    → Inv (putOpens f (set (f .opens) (place p t) (addModes (opensOf f p t) m))) a
+    → Inv (putMarks f p t (addModes (opensOf f p t) m)) a
 inv-add f a p t m I hp ht R W =
     inv-mark f a p t _ I hp ht
     (λ h. or-cases _ _ (rw reading-add at h) (λ e. I .process p .readable t ht e) R)
     (λ h. or-cases _ _ (rw writing-add at h) (λ e. I .process p .writable t ht e) W)
 
-pub inv-close : (f : Facility) (a : Account) (p t : ℕ) → Inv f a → p < mostProcesses → t < mostObjects → Inv (putOpens f (set (f .opens) (place p t) 0)) a
+pub inv-close : (f : Facility) (a : Account) (p t : ℕ) → Inv f a → p < mostProcesses → t < mostObjects → Inv (putMarks f p t 0) a
 inv-close f a p t I hp ht = inv-mark f a p t 0 I hp ht (not-reading refl) (not-writing refl)
 
 pub inv-close-object : (f : Facility) (a : Account) (t : ℕ) → Inv f a → Inv (putOpens f (closeObject (f .opens) t)) a
-unfolding closeObject opensOf
+unfolding closeObject
 inv-close-object f a t I =
     inv-rule f a _ I
-    (λ q u hq hu m. by-test (eqb (place q u % mostObjects) t) (λ e. not-reading {v = 0} refl (rw e at m)) (λ e. I .process q .readable u hu (rw e at m)))
-    (λ q u hq hu m. by-test (eqb (place q u % mostObjects) t) (λ e. not-writing {v = 0} refl (rw e at m)) (λ e. I .process q .writable u hu (rw e at m)))
+    (λ q u hq hu m. by-test (eqb (place q u % mostObjects) t) (λ e. not-reading {v = 0} refl (rw e at m))
+    (λ e. I .process q .readable u hu (rw (opens-at f q u hu) (rw e at m))))
+    (λ q u hq hu m. by-test (eqb (place q u % mostObjects) t) (λ e. not-writing {v = 0} refl (rw e at m))
+    (λ e. I .process q .writable u hu (rw (opens-at f q u hu) (rw e at m))))
 
 pub inv-close-process : (f : Facility) (a : Account) (p : ℕ) → Inv f a → Inv (putOpens f (closeProcess (f .opens) p)) a
-unfolding closeProcess opensOf
+unfolding closeProcess
 inv-close-process f a p I =
     inv-rule f a _ I
-    (λ q u hq hu m. by-test (eqb (place q u / mostObjects) p) (λ e. not-reading {v = 0} refl (rw e at m)) (λ e. I .process q .readable u hu (rw e at m)))
-    (λ q u hq hu m. by-test (eqb (place q u / mostObjects) p) (λ e. not-writing {v = 0} refl (rw e at m)) (λ e. I .process q .writable u hu (rw e at m)))
+    (λ q u hq hu m. by-test (eqb (place q u / mostObjects) p) (λ e. not-reading {v = 0} refl (rw e at m))
+    (λ e. I .process q .readable u hu (rw (opens-at f q u hu) (rw e at m))))
+    (λ q u hq hu m. by-test (eqb (place q u / mostObjects) p) (λ e. not-writing {v = 0} refl (rw e at m))
+    (λ e. I .process q .writable u hu (rw (opens-at f q u hu) (rw e at m))))
 
 -- process t gets a copy of p's opens: t's marks are p's
 pub inv-copy : (f : Facility) (a : Account) (p t : ℕ) → Inv f a → processOf f t ≡ processOf f p → Inv (putOpens f (copyProcess (f .opens) p t)) a
-unfolding copyProcess opensOf
+unfolding copyProcess
 inv-copy f a p t I e =
     inv-rule f a _ I
     (λ q u hq hu m. by-test (eqb (place q u / mostObjects) t)
     (λ h. subst⁻¹ (λ (x : Process). (on (x .running) ≡ true) × Knows (f .entered) (labelOf f u) u x) (like q u hu h)
-    (I .process p .readable u hu (rw (h, place-object q u hu) at m)))
-    (λ h. I .process q .readable u hu (rw h at m)))
+    (I .process p .readable u hu (rw (opens-at f p u hu) (rw (h, place-object q u hu) at m))))
+    (λ h. I .process q .readable u hu (rw (opens-at f q u hu) (rw h at m))))
     (λ q u hq hu m. by-test (eqb (place q u / mostObjects) t)
     (λ h. subst⁻¹ (λ (x : Process). (on (x .running) ≡ true) × Reaches (f .entered) (labelOf f u) u x) (like q u hu h)
-    (I .process p .writable u hu (rw (h, place-object q u hu) at m)))
-    (λ h. I .process q .writable u hu (rw h at m)))
+    (I .process p .writable u hu (rw (opens-at f p u hu) (rw (h, place-object q u hu) at m))))
+    (λ h. I .process q .writable u hu (rw (opens-at f q u hu) (rw h at m))))
   where
     like : (q u : ℕ) → u < mostObjects → eqb (place q u / mostObjects) t ≡ true → processOf f q ≡ processOf f p
     like q u hu h = ap (processOf f) (sym (place-process q u hu) ∙ eqb-true _ _ h) ∙ e

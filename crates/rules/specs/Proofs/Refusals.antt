@@ -57,13 +57,13 @@ unchanged' : (f : Facility) (c : Call) → accepted f c ≡ false → after f c 
 unfolding after
 unchanged' f c h = rw h (refusal-kept f (number f c))
 
-uncounted' : (f : Facility) (c : Call) → 1 ≤ number f c → number f c ≤ 11 → after f c ≡ f
-unfolding after accepted afterRefusal
-uncounted' f c h k = rw (not-zero (number f c) h, not-denied (number f c) k)
+uncounted' : (f : Facility) (c : Call) → accepted f c ≡ false → denies (number f c) ≡ false → after f c ≡ f
+unfolding after afterRefusal
+uncounted' f c h k = rw (h, k)
 
-unasked' : (f : Facility) (c : Call) → 1 ≤ number f c → number f c ≤ 11 → query f c ≡ Refused (number f c)
-unfolding query outcomeOf
-unasked' f c h k = rw (not-zero (number f c) h, not-denied (number f c) k)
+unasked' : (f : Facility) (c : Call) → accepted f c ≡ false → denies (number f c) ≡ false → query f c ≡ Refused (number f c)
+unfolding query outcomeOf accepted
+unasked' f c h k = rw (h, k)
 
 counts' : (f : Facility) (c : Call) → denies (number f c) ≡ true → after f c ≡ counted f
 unfolding after accepted afterRefusal

@@ -1,5 +1,4 @@
 -- Set-ups read and written out, and written out and read back: proved.
-use Rattle.state.specs.declared.SetupOutcome.the-variants.{Accepted, Refused}
 use Prim.Native.Nat.{ℕ, zero, suc, _+_, _*_, _/_, _%_, _≤_, _<_}
 use mathlib.Core.Path.{_≡_, refl, sym, _∙_, ap}
 use mathlib.Core.Logic.{_≢_}
@@ -15,7 +14,10 @@ use Rattle.state.specs.Tests.{_and_, _or_, ask, at, on, and-l, and-r, and-i, cl
 use Rattle.state.specs.Views.{Shaped, user-new, user-old, object-new, object-old, add-user, add-object}
 use Rattle.state.specs.State.{mostUsers, mostObjects, Users, Objects, usersIn, objectsIn, objectIn, userIn, putUser, putObject, addUser, addObject, blank}
 use Rattle.rules.specs.Calls.{run}
-use Rattle.rules.specs.Setup.{SetupRecord, isSwitches, isUserRecord, isObjectRecord, firstRecord, recordsOf, bytesOf, bytesOfAll, allowedLength, sized, fits, room, switchesAllowed, userAllowed, objectAllowed, allowed, recordNumber, userEntered, objectEntered, enterRecord, enterAll, readSetup, fresh, isAccepted, switchesRecord, userRecord, objectRecord, firstUsers, firstLive, usersOf, liveObjects, setupRecords, setupBytes}
+use Rattle.rules.specs.Setup.{SetupRecord, isSwitches, isUserRecord, isObjectRecord, firstRecord, recordsOf, bytesOf, bytesOfAll, allowedLength}
+use Rattle.rules.specs.Setup.{sized, fits, room, switchesAllowed, userAllowed, objectAllowed, allowed, recordNumber, userEntered, objectEntered}
+use Rattle.rules.specs.Setup.{enterRecord, enterAll, readSetup, fresh, isAccepted, switchesRecord, userRecord, objectRecord, firstUsers, firstLive}
+use Rattle.rules.specs.Setup.{usersOf, liveObjects, setupRecords, setupBytes}
 use Rattle.rules.specs.Promises.{SameSetup, ReadBack, RoundTrips}
 use Rattle.rules.specs.Proofs.Regular.{Regular, regular-run}
 use Rattle.rules.specs.Proofs.Fresh.{Fresh, fresh-refused, fresh-record, fresh-setup}
@@ -148,9 +150,11 @@ added-written : (f : Facility) (i : ℕ) (r : SetupRecord) → Fresh f → i ≢
 unfolding enterRecord
 added-written f i r F n (as-switches z k a) = absurd (n z)
 added-written f i r F n (as-user z k3 k1 e h a) =
-    rw (k3, k1, add-user f (userEntered r) h) (user-written f (userEntered r) (F .regular .sound .shaped) h e ∙ ap (λ (x : SetupRecord). setupRecords f ++ (x ∷ [])) (user-record r k1 a))
+    rw (k3, k1, add-user f (userEntered r) h) (user-written f (userEntered r) (F .regular .sound .shaped) h e
+    ∙ ap (λ (x : SetupRecord). setupRecords f ++ (x ∷ [])) (user-record r k1 a))
 added-written f i r F n (as-object z k3 k1 k2 h a) =
-    rw (k3, k1, add-object f (objectEntered r) h) (object-written f (objectEntered r) (F .regular .sound .shaped) h refl ∙ ap (λ (x : SetupRecord). setupRecords f ++ (x ∷ [])) (object-record r k2 a))
+    rw (k3, k1, add-object f (objectEntered r) h) (object-written f (objectEntered r) (F .regular .sound .shaped) h refl
+    ∙ ap (λ (x : SetupRecord). setupRecords f ++ (x ∷ [])) (object-record r k2 a))
 
 all-written : (rs : List SetupRecord) (i : ℕ) (f : Facility) → Fresh f → i ≢ 0 → isAccepted (enterAll i f rs .outcome) ≡ true
     → setupRecords (enterAll i f rs .facility) ≡ setupRecords f ++ rs
@@ -261,11 +265,13 @@ goes-on : (i : ℕ) (f : Facility) (r : SetupRecord) (rs : List SetupRecord) →
 unfolding enterAll
 goes-on i f r rs e h = rw (eq-eqb _ 0 e) h
 
-user-number : (i : ℕ) (f : Facility) (u : User) → i ≢ 0 → f .entered ≡ 0 → f .users < mostUsers → UserFit u → recordNumber (f .users) (f .entered) i (userRecord u) ≡ 0
+user-number : (i : ℕ) (f : Facility) (u : User) → i ≢ 0 → f .entered ≡ 0 → f .users < mostUsers → UserFit u → recordNumber (f .users) (f .entered) i
+    (userRecord u) ≡ 0
 unfolding recordNumber fits room allowed ask _and_ _or_
 user-number i f u n z h a = rw (ne-eqb i 0 n, eq-eqb (f .entered) 0 z, lt-ltb _ _ h, a)
 
-object-number : (i : ℕ) (f : Facility) (o : Object) → i ≢ 0 → f .entered < mostObjects → ObjectFit o → recordNumber (f .users) (f .entered) i (objectRecord o) ≡ 0
+object-number : (i : ℕ) (f : Facility) (o : Object) → i ≢ 0 → f .entered < mostObjects → ObjectFit o → recordNumber (f .users) (f .entered) i
+    (objectRecord o) ≡ 0
 unfolding recordNumber fits room allowed ask _and_ _or_
 object-number i f o n h a = rw (ne-eqb i 0 n, lt-ltb _ _ h, a .0)
 
@@ -299,7 +305,8 @@ users-accepted (u ∷ us) os i f n z h k a b =
     goes-on i f (userRecord u) (map userRecord us ++ map objectRecord os) (user-number i f u n z (omega arith) (a .0))
     (users-accepted us os (i + 1) (enterRecord f (userRecord u)) (omega arith) (user-entered f u (omega arith) ∙ z) (omega arith) k (a .1) b)
 
-switches-number : (f : Facility) → switchesAllowed (switchesRecord f) ≡ true → recordNumber ((blank 0 0 0) .users) ((blank 0 0 0) .entered) 0 (switchesRecord f) ≡ 0
+switches-number : (f : Facility) → switchesAllowed (switchesRecord f) ≡ true → recordNumber ((blank 0 0 0) .users) ((blank 0 0 0) .entered) 0
+    (switchesRecord f) ≡ 0
 unfolding recordNumber fits room allowed ask
 switches-number f a = rw a
 
@@ -320,7 +327,8 @@ all-accepted f R =
     let lo = objects-length (f .entered) (objectsIn f) in
     goes-on 0 (blank 0 0 0) (switchesRecord f) _ (switches-number f (R .switches))
     (users-accepted (usersOf f) (liveObjects f) 1 (enterRecord (blank 0 0 0) (switchesRecord f)) (omega arith) z
-    (omega (arith, R .sound .users)) (omega (arith, R .sound .entered)) (users-fit (f .users) (usersIn f) (R .user)) (objects-fit (f .entered) (objectsIn f) (R .object)))
+    (omega (arith, R .sound .users)) (omega (arith, R .sound .entered)) (users-fit (f .users) (usersIn f) (R .user))
+    (objects-fit (f .entered) (objectsIn f) (R .object)))
 
 -- the bytes that are written out have an allowed length, and are read as the records that they were made of
 pub map-length {ℓ κ} : {A : Type ℓ} {B : Type κ} (g : A → B) (xs : List A) → length (map g xs) ≡ length xs

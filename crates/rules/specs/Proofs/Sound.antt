@@ -11,7 +11,8 @@ use borrow.Author.Tests.{ltb-true, ltb-false}
 use Rattle.rules.specs.Types.{Process, User, Object, Facility}
 use Rattle.state.specs.Tests.{at, on, clash, by-test, by-eq}
 use Rattle.state.specs.Views.{Shaped, object-old, shaped-process, shaped-opens, shaped-user, shaped-object, shaped-drop, shaped-refusals}
-use Rattle.state.specs.State.{mostUsers, mostProcesses, mostObjects, mostOpens, processIn, objectIn, processOf, live, place, opensOf, putProcess, putOpens, putUser, putObject, dropObject, putRefusals, noProcess, blank}
+use Rattle.state.specs.State.{mostUsers, mostProcesses, mostObjects, mostOpens, processIn, objectIn, processOf, live, markPlace, opensOf, putProcess}
+use Rattle.state.specs.State.{putOpens, putUser, putObject, dropObject, putRefusals, noProcess, blank}
 use Rattle.state.specs.Labels.{label, bottom}
 
 pub record Sound (f : Facility) : Type 0 where
@@ -114,7 +115,7 @@ sound-blank mac fc sim =
 -- a blank facility has no open, and each of its process numbers is that of no process
 pub blank-closed : (mac fc sim p t : ℕ) → opensOf (blank mac fc sim) p t ≡ 0
 unfolding blank opensOf
-blank-closed mac fc sim p t = at-zeros mostOpens (place p t)
+blank-closed mac fc sim p t = at-zeros mostOpens (markPlace p t)
 
 pub blank-process : (mac fc sim p : ℕ) → processOf (blank mac fc sim) p ≡ noProcess
 unfolding blank noProcess bottom processIn

@@ -9,14 +9,17 @@ use native.Mathlib.Omega.{arith}
 use borrow.Author.Tests.{ltb-true, eqb-true, not-true, eq-eqb, ne-eqb}
 use Rattle.rules.specs.Types.{Call, Process, Facility}
 use Rattle.state.specs.Tests.{_and_, at, clash, by-test}
-use Rattle.state.specs.Views.{process-same, process-other, add-object, at-build, place-below, place-process}
+use Rattle.state.specs.Views.{process-same, process-other, add-object, at-build, place-below, place-process, opens-put}
 use Rattle.state.specs.Outcomes.{denies}
-use Rattle.state.specs.State.{mostProcesses, mostObjects, mostOpens, processOf, runs, live, trustedUser, labelOf, place, opensOf, reading, writing, closeProcess, putProcess, putOpens, freshProcess, noProcess}
+use Rattle.state.specs.State.{mostProcesses, mostObjects, mostOpens, processOf, runs, live, trustedUser, labelOf, place, opensOf, reading, writing}
+use Rattle.state.specs.State.{closeProcess, putProcess, putOpens, freshProcess, noProcess}
 use Rattle.state.specs.Labels.{Label, given, _⊑_, ⊑-refl, ⊑-trans, bottom-least}
 use Rattle.state.specs.Answers.{passes, passes-grant}
 use Rattle.rules.specs.Effects.{openBy, created, effectFrom, effectBy}
 use Rattle.rules.specs.Calls.{accepted, afterRefusal, after, trustedLogin}
-use Rattle.rules.specs.Requests.{Request, Login, Clone, SendSignal, SetLevel, Terminate, Create, OnObject, Unknown, Class, Absent, Reads, Writes, Both, NoCondition, OpenChange, Keep, Add, Close, CloseAll, requestOf, isAbsent, isNoCondition, alters, isLogin, inDirectory, openChange}
+use Rattle.rules.specs.Requests.{Request, Login, Clone, SendSignal, SetLevel, Terminate, Create, OnObject, Unknown, Class, Absent, Reads, Writes}
+use Rattle.rules.specs.Requests.{Both, NoCondition, OpenChange, Keep, Add, Close, CloseAll, requestOf, isAbsent, isNoCondition, alters, isLogin}
+use Rattle.rules.specs.Requests.{inDirectory, openChange}
 use Rattle.rules.specs.Matter.{nothing, Account, processGains, objectGains, assign, takes, gives, carry, carryBy, afterEntry}
 use Rattle.rules.specs.Modules.{viewOf, classIn, macObject, macRule, moved, levelled}
 use Rattle.rules.specs.Questions.{openFor, number}
@@ -86,7 +89,11 @@ step-clone f a c I q =
 closed-process : (l : List ℕ) (p t : ℕ) → p < mostProcesses → t < mostObjects → at (closeProcess l p) (place p t) ≡ 0
 unfolding closeProcess
 closed-process l p t h k =
-    rw (at-build mostOpens (λ i. cond (eqb (i / mostObjects) p) 0 (at l i)) (place p t) (place-below p t h k), eq-eqb (place p t / mostObjects) p (place-process p t k))
+    rw (
+      at-build mostOpens (λ i. cond (eqb (i / mostObjects) p) 0 (at l i)) (place p t) (place-below p t h k),
+      eq-eqb (place p t / mostObjects) p
+          (place-process p t k),
+    )
 
 step-terminate : (f : Facility) (a : Account) (c : Call) → Inv f a → Passed Terminate (viewOf f c) c → Inv (effectBy Terminate f c) (carryBy Terminate a c)
 unfolding effectFrom carryBy putProcess putOpens opensOf noProcess
@@ -103,12 +110,13 @@ step-terminate f a c I q =
     })
   where
     gone : (t : ℕ) → t < mostObjects → opensOf (putOpens f (closeProcess (f .opens) (c .process))) (c .process) t ≡ 0
-    gone t h = closed-process (f .opens) (c .process) t (q .process) h
+    gone t h = opens-put f (closeProcess (f .opens) (c .process)) (c .process) t h ∙ closed-process (f .opens) (c .process) t (q .process) h
 
 step-set-level : (f : Facility) (a : Account) (c : Call) → Inv f a → Passed SetLevel (viewOf f c) c → Inv (effectBy SetLevel f c) (carryBy SetLevel a c)
 unfolding effectFrom carryBy macRule
 step-set-level f a c I q =
-    inv-move f a (c .process) (levelled (viewOf f c) c) I (q .process) (levelled-moved (viewOf f c) c (I .mac) (passes-grant _ (mac-passed SetLevel (viewOf f c) c q (I .mac))))
+    inv-move f a (c .process) (levelled (viewOf f c) c) I (q .process) (levelled-moved (viewOf f c) c (I .mac)
+    (passes-grant _ (mac-passed SetLevel (viewOf f c) c q (I .mac))))
 
 -- a granted call on an object by an untrusted caller
 record Granted-on (f : Facility) (c : Call) : Type 0 where
@@ -117,7 +125,8 @@ record Granted-on (f : Facility) (c : Call) : Type 0 where
   closes : Closed (classIn (viewOf f c) c) (labelOf f (c .target)) (moved (viewOf f c) c)
   over : alters (classIn (viewOf f c) c) ≡ true → ((moved (viewOf f c) c) .readmark) ⊑ labelOf f (c .target)
 
-granted-on : (f : Facility) (a : Account) (c : Call) → Inv f a → runs f (c .process) ≡ true → passes (macObject (classIn (viewOf f c) c) (viewOf f c .object) (viewOf f c .caller) (viewOf f c .owner)) ≡ true → Granted-on f c
+granted-on : (f : Facility) (a : Account) (c : Call) → Inv f a → runs f (c .process) ≡ true
+    → passes (macObject (classIn (viewOf f c) c) (viewOf f c .object) (viewOf f c .caller) (viewOf f c .owner)) ≡ true → Granted-on f c
 granted-on f a c I r h =
     let u = I .process (c .process) .owner r in
     let o = I .process (c .process) .ordered r in
@@ -157,23 +166,27 @@ module _ (f : Facility) (a : Account) (c : Call) (I : Inv f a) (hp : c .process 
       → Reaches (f .entered) (labelOf f (c .target)) (c .target) (processOf (putProcess f (c .process) (moved (viewOf f c) c)) (c .process))
   reaches-now b = rw now (record { inside = inside; labelled = G .labelled; above = b })
 
-  give-now : ((moved (viewOf f c) c) .readmark) ⊑ labelOf f (c .target) → Inv (putProcess f (c .process) (moved (viewOf f c) c)) (objectGains a (c .process) (c .target))
+  give-now : ((moved (viewOf f c) c) .readmark) ⊑ labelOf f (c .target) → Inv (putProcess f (c .process) (moved (viewOf f c) c))
+      (objectGains a (c .process) (c .target))
   unfolding putProcess
   give-now b = inv-give _ a (c .process) (c .target) inv-now runs-now inside (G .labelled) (rw now b)
 
-  take-now : labelOf f (c .target) ⊑ ((moved (viewOf f c) c) .readmark) → Inv (putProcess f (c .process) (moved (viewOf f c) c)) (processGains a (c .process) (c .target))
+  take-now : labelOf f (c .target) ⊑ ((moved (viewOf f c) c) .readmark) → Inv (putProcess f (c .process) (moved (viewOf f c) c))
+      (processGains a (c .process) (c .target))
   unfolding putProcess
   take-now b = inv-take _ a (c .process) (c .target) inv-now (knows-now b)
 
 -- a process takes only what it may know, and gives only to what is at least its read mark
-takes-below : (k : Class) (r : ℕ) (l : Label) (s : Process) → Closed k l s → (isNoCondition k ≡ true → eqb r 12 ≡ true → l ⊑ (s .readmark)) → takes r k ≡ true → l ⊑ (s .readmark)
+takes-below : (k : Class) (r : ℕ) (l : Label) (s : Process) → Closed k l s → (isNoCondition k ≡ true → eqb r 12 ≡ true → l ⊑ (s .readmark))
+    → takes r k ≡ true → l ⊑ (s .readmark)
 takes-below Absent r l s C n h = clash h refl
 takes-below Reads r l s C n h = C .reads refl
 takes-below Writes r l s C n h = clash h refl
 takes-below Both r l s C n h = clash h refl
 takes-below NoCondition r l s C n h = n refl h
 
-gives-over : (k : Class) (r : ℕ) (l : Label) (s : Process) → (alters k ≡ true → (s .readmark) ⊑ l) → (isNoCondition k ≡ true → eqb r 19 ≡ true → (s .readmark) ⊑ l) → gives r k ≡ true → (s .readmark) ⊑ l
+gives-over : (k : Class) (r : ℕ) (l : Label) (s : Process) → (alters k ≡ true → (s .readmark) ⊑ l)
+    → (isNoCondition k ≡ true → eqb r 19 ≡ true → (s .readmark) ⊑ l) → gives r k ≡ true → (s .readmark) ⊑ l
 gives-over Absent r l s w n h = clash h refl
 gives-over Reads r l s w n h = clash h refl
 gives-over Writes r l s w n h = w refl

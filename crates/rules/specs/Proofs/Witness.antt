@@ -5,19 +5,20 @@ use mathlib.Core.Bool.{Bool, true, false}
 use mathlib.Core.List.{List, _∷_}
 use lib.Dec.{leb, eqb}
 use lib.ListN.{length, length-set}
-use lib.Seq.{getD-set-same}
-use native.Mathlib.Omega.{arith}
 use borrow.Author.Tests.{eqb-true, eq-eqb}
 use Rattle.rules.specs.Types.{Call, Process, Facility}
 use Rattle.state.specs.Tests.{_and_, _or_, asked, on, or-l, or-r, clash, by-test}
+use Rattle.state.specs.Outside.{one-pair}
 use Rattle.state.specs.Views.{Shaped, process-same, shaped-process, shaped-opens, reading-add, writing-add}
 use Rattle.state.specs.Outcomes.{answersFrom}
-use Rattle.state.specs.State.{mostProcesses, mostObjects, mostOpens, processOf, objectOf, userOf, live, trustedUser, labelOf, clearanceOf, place, opensOf, reading, writing, addModes, putProcess, putOpens}
+use Rattle.state.specs.State.{mostProcesses, mostObjects, mostOpens, processOf, objectOf, userOf, live, trustedUser, labelOf, clearanceOf, opensOf, reading}
+use Rattle.state.specs.State.{writing, addModes, putProcess, putOpens}
 use Rattle.state.specs.Labels.{Label, given}
 use Rattle.state.specs.Answers.{passes, combine-not-cared}
 use Rattle.rules.specs.Effects.{openBy, effectFrom, effectBy}
 use Rattle.rules.specs.Calls.{accepted, after, trustedLogin, trustedLogins}
-use Rattle.rules.specs.Requests.{Request, OnObject, Class, Absent, Reads, Writes, Both, NoCondition, OpenChange, Keep, Add, Close, CloseAll, lastRequest, requestOf, classOf, isAbsent, isNoCondition, isLogin, openChange}
+use Rattle.rules.specs.Requests.{Request, OnObject, Class, Absent, Reads, Writes, Both, NoCondition, OpenChange, Keep, Add, Close, CloseAll}
+use Rattle.rules.specs.Requests.{lastRequest, requestOf, classOf, isAbsent, isNoCondition, isLogin, openChange}
 use Rattle.rules.specs.Matter.{Account, processGains, objectGains, takes, gives, carry, carryBy, afterEntry, account, history}
 use Rattle.rules.specs.Modules.{viewOf, classIn, macClass, macObject, macRule, macAnswer, fcAnswer, simAnswer, answers, moveBy, moved}
 use Rattle.rules.specs.Questions.{openFor, numberBy}
@@ -239,7 +240,8 @@ module _ (p : ℕ) (a : Account) (q t : ℕ) (k : Class) (x : ℕ) where
   carry-gives e d h = rw (e, d, eq-eqb t t refl) (or-r _ _ h)
 
 -- a call by process p on an object, and what is reached after it
-module _ (p : ℕ) (f₀ f : Facility) (a : Account) (u : ℕ) (r : Process) (q t : ℕ) (k : Class) (o : OpenChange) (S : Scene p f₀ f a u r) (A : Allowed p f₀ f u r q t k)
+module _ (p : ℕ) (f₀ f : Facility) (a : Account) (u : ℕ) (r : Process) (q t : ℕ) (k : Class) (o : OpenChange) (S : Scene p f₀ f a u r)
+    (A : Allowed p f₀ f u r q t k)
     (e : openChange q ≡ o) (d : drops o ≡ false) where
   pub reach-target : (cs : List Call) (b x : ℕ)
       → (Scene p f₀ (openBy o (putProcess f p (moveBy k (labelOf f₀ t) r)) p t) (carry k a (by p q t)) u (moveBy k (labelOf f₀ t) r)
@@ -254,8 +256,8 @@ module _ (p : ℕ) (f₀ f : Facility) (a : Account) (u : ℕ) (r : Process) (q 
 -- the marks of an object just opened by process p
 opened-mark : (p : ℕ) (f : Facility) (s : Process) (t m : ℕ) → Shaped f → p < mostProcesses → t < mostObjects
     → opensOf (openBy (Add m) (putProcess f p s) p t) p t ≡ addModes (opensOf f p t) m
-unfolding opensOf openBy putOpens putProcess
-opened-mark p f s t m S hp h = getD-set-same (f .opens) (place p t) _ 0 (omega (arith, S .opens))
+unfolding opensOf openBy putProcess
+opened-mark p f s t m S hp h = one-pair (putProcess f p s) (shaped-process f p s S) .same p t _ hp h
 
 pub open-to-read : (p : ℕ) (f : Facility) (s : Process) (t m : ℕ) → Shaped f → p < mostProcesses → t < mostObjects → reading m ≡ true
     → openFor (viewOf (openBy (Add m) (putProcess f p s) p t) (by p 12 t)) (by p 12 t) ≡ true

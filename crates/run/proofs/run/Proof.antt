@@ -1,10 +1,10 @@
+-- The buffers keep their lengths from block to block.
 use Rattle.run.proofs.run.Statement.{statement}
 use Rattle.run.proofs.run.Tie as tie
 use Prim.Native.Nat.{_-_}
 use mathlib.Core.Path.{_≡_}
 use lib.ListN.{length}
 use borrow.Author.Needs.{needs}
-use Rattle.rules.specs.Calls.{run}
 
 abbrev Inv-loop : tie.InvT-loop
 Inv-loop bytes₀ out₀ f₀ k₀ bytes out f k = (4096 ≡ length bytes) × (65536 ≡ length out)
@@ -19,7 +19,7 @@ large-buffer-requires : tie.Need-large-buffer-requires Inv-loop μ-loop
 large-buffer-requires c κs = search needs
 
 loop-holds : tie.Need-loop-holds Inv-loop μ-loop
-loop-holds c = (c .before .buffer .ensures, c .large-buffer .ensures)
+loop-holds c = (c .before .before .before .buffer .ensures, c .before .before .large-buffer .ensures)
 
 mul-turn : tie.Need-mul-turn Inv-loop μ-loop
 mul-turn c = search needs
@@ -59,6 +59,7 @@ run-spec =
     μ-loop
     buffer-requires
     large-buffer-requires
+    (λ c κs. search needs)
     loop-holds
     mul-turn
     add-turn

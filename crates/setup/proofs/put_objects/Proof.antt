@@ -8,12 +8,13 @@ use lib.Seq.{sets, length-sets}
 use native.Mathlib.Omega.{arith}
 use borrow.Author.Needs.{needs}
 use Rattle.state.specs.declared.Object.{Object}
-use Rattle.state.specs.State.{objectsFrom, place}
-use Rattle.rules.specs.Matter.{start}
+use Rattle.state.specs.State.{objectsFrom}
 use Rattle.setup.specs.Stored.{objectBytes, liveBytes, objects-none, store-object, object-place, object-fits}
 
 abbrev Inv-loop : tie.InvT-loop
-Inv-loop out₀ start lives kinds levels categories datatypes n place₀ k₀ out place k = (k ≤ n) × (length out ≡ length out₀) × (place ≡ start + length (objectBytes k (objectsFrom lives kinds levels categories datatypes))) × (out ≡ sets out₀ start (objectBytes k (objectsFrom lives kinds levels categories datatypes)))
+Inv-loop out₀ start lives kinds levels categories datatypes n place₀ k₀ out place k = (k ≤ n) × (length out ≡ length out₀) ×
+    (place ≡ start + length (objectBytes k (objectsFrom lives kinds levels categories datatypes))) ×
+    (out ≡ sets out₀ start (objectBytes k (objectsFrom lives kinds levels categories datatypes)))
 
 abbrev μ-loop : tie.MeasureT-loop
 μ-loop out₀ start lives kinds levels categories datatypes n place₀ k₀ out place k = n - k
@@ -21,8 +22,12 @@ abbrev μ-loop : tie.MeasureT-loop
 loop-holds : tie.Need-loop-holds Inv-loop μ-loop
 loop-holds c =
     let a = c .before .before .before .before .before .before .args in
-    let z = objects-none (objectsFrom (a .lives .now) (a .kinds .now) (a .levels .now) (a .categories .now) (a .datatypes .now)) in
-    (search needs, refl, (let s : a .start ≡ a .start + 0 = omega arith in s ∙ ap (λ (q : List ℕ). a .start + length q) (sym z)), sym (ap (λ (q : List ℕ). sets (a .out .now) (a .start) q) z))
+    let z = objects-none (objectsFrom (a .lives .now) (a .kinds .now) (a .levels .now) (a .categories .now) (a .datatypes .now)) in (
+      search needs,
+      refl,
+      (let s : a .start ≡ a .start + 0 = omega arith in s ∙ ap (λ (q : List ℕ). a .start + length q) (sym z)),
+      sym (ap (λ (q : List ℕ). sets (a .out .now) (a .start) q) z),
+    )
 
 cast-object-at : tie.Need-cast-object-at Inv-loop μ-loop
 cast-object-at c = search needs
@@ -56,7 +61,8 @@ loop-again c =
     ∙ store-object (a .out .now) (l .out) (a .start) (l .k) (l .place) x (l .inv .2) (l .inv .3) in (
       search needs,
       ap length e ∙ length-sets (a .out .now) (a .start) (objectBytes (l .k + 1) x),
-      c .before .before .put-object .ensures .1 ∙ ap (λ (q : Object). l .place + length (liveBytes q)) o ∙ object-place (a .start) (l .k) (l .place) x (l .inv .2),
+      c .before .before .put-object .ensures .1 ∙ ap (λ (q : Object). l .place + length (liveBytes q)) o
+          ∙ object-place (a .start) (l .k) (l .place) x (l .inv .2),
       e,
     )
 
@@ -68,7 +74,8 @@ returns c =
     let l = c .before .loop in
     let a = c .before .before .before .before .before .before .before .before .args in
     let e : l .k ≡ a .n = omega arith in
-    l .inv .3 ∙ ap (λ (m : ℕ). sets (a .out .now) (a .start) (objectBytes m (objectsFrom (a .lives .now) (a .kinds .now) (a .levels .now) (a .categories .now) (a .datatypes .now)))) e
+    let x = objectsFrom (a .lives .now) (a .kinds .now) (a .levels .now) (a .categories .now) (a .datatypes .now) in
+    l .inv .3 ∙ ap (λ (m : ℕ). sets (a .out .now) (a .start) (objectBytes m x)) e
 
 pub put-objects-spec : {M : Type 1} → statement M
 put-objects-spec =

@@ -3,7 +3,6 @@ use Rattle.text.proofs.put_decimal.Tie as tie
 use mathlib.Core.Path.{_∙_}
 use borrow.Author.Needs.{needs}
 use Rattle.rules.specs.Lines.{decimal}
-use Rattle.state.specs.State.{place}
 use Rattle.text.specs.Decimals.{fewest}
 use Rattle.text.specs.Stored.{as-text}
 
@@ -23,7 +22,10 @@ same-length : tie.Need-same-length
 same-length c = search needs
 
 returns : tie.Need-returns
-returns c = let a = c .before .before .before .before .before .before .before .before .args in let d = c .before .before .before .before .before .decimal .ensures in as-text (a .out .now) _ _ (decimal (a .n)) (a .place) _ (d .1 .1 ∙ fewest _ (a .n) (d .1 .0)) (c .before .before .put-text .ensures)
+returns c =
+    let a = c .before .before .before .before .before .before .before .before .args in
+    let d = c .before .before .before .before .before .decimal .ensures in
+    as-text (a .out .now) _ _ (decimal (a .n)) (a .place) _ (d .1 .1 ∙ fewest _ (a .n) (d .1 .0)) (c .before .before .put-text .ensures)
 
 pub put-decimal-spec : {M : Type 1} → statement M
 put-decimal-spec =

@@ -3,7 +3,6 @@ use Rattle.text.proofs.put_field.Tie as tie
 use mathlib.Core.List.{[], _∷_}
 use borrow.Author.Needs.{needs}
 use Rattle.rules.specs.Lines.{decimal}
-use Rattle.state.specs.State.{place}
 use Rattle.text.specs.Stored.{then}
 
 put-decimal-requires : tie.Need-put-decimal-requires
@@ -19,7 +18,10 @@ same-length : tie.Need-same-length
 same-length c = search needs
 
 returns : tie.Need-returns
-returns c = let a = c .before .before .before .before .before .before .before .before .before .before .args in then (a .out .now) _ _ (a .place) _ _ (decimal (a .n)) (32 ∷ []) (c .before .before .before .before .before .before .before .put-decimal .ensures) (c .before .before .put-text .ensures)
+returns c =
+    let a = c .before .before .before .before .before .before .before .before .before .before .args in
+    then (a .out .now) _ _ (a .place) _ _ (decimal (a .n)) (32 ∷ []) (c .before .before .before .before .before .before .before .put-decimal .ensures)
+    (c .before .before .put-text .ensures)
 
 pub put-field-spec : {M : Type 1} → statement M
 put-field-spec =

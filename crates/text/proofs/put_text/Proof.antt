@@ -6,7 +6,6 @@ use lib.ListN.{length, drop, length-set}
 use lib.Seq.{sets}
 use native.Mathlib.Omega.{arith}
 use borrow.Author.Needs.{needs}
-use Rattle.state.specs.State.{place}
 use Rattle.text.specs.Stored.{store-more, store-done, store-none}
 
 abbrev Inv-loop : tie.InvT-loop
@@ -25,7 +24,9 @@ least-requires : tie.Need-least-requires Inv-loop μ-loop
 least-requires c κs = search needs
 
 loop-holds : tie.Need-loop-holds Inv-loop μ-loop
-loop-holds c = let a = c .before .before .before .before .args in (search needs, refl, (let e : a .place + 0 ≡ a .place = omega arith in ap (λ (k : ℕ). sets (a .out .now) k (a .text .now)) e))
+loop-holds c =
+    let a = c .before .before .before .before .args in
+    (search needs, refl, (let e : a .place + 0 ≡ a .place = omega arith in ap (λ (k : ℕ). sets (a .out .now) k (a .text .now)) e))
 
 shared-slice-read-out : tie.Need-shared-slice-read-out Inv-loop μ-loop
 shared-slice-read-out c = search needs
@@ -43,7 +44,13 @@ loop-less : tie.Need-loop-less Inv-loop μ-loop
 loop-less c = search needs
 
 loop-again : tie.Need-loop-again Inv-loop μ-loop
-loop-again c = let l = c .before .before .loop in let a = c .before .before .before .before .before .before .before .args in (search needs, length-set (l .out) (a .place + l .j) _ ∙ l .inv .1, store-more (a .out .now) (l .out) (a .text .now) (a .place) (l .j) (search needs) (l .inv .2))
+loop-again c =
+    let l = c .before .before .loop in
+    let a = c .before .before .before .before .before .before .before .args in (
+      search needs,
+      length-set (l .out) (a .place + l .j) _ ∙ l .inv .1,
+      store-more (a .out .now) (l .out) (a .text .now) (a .place) (l .j) (search needs) (l .inv .2),
+    )
 
 add-result : tie.Need-add-result Inv-loop μ-loop
 add-result c = search needs
@@ -52,7 +59,12 @@ same-length : tie.Need-same-length Inv-loop μ-loop
 same-length c = search needs
 
 returns-2 : tie.Need-returns-2 Inv-loop μ-loop
-returns-2 c = let l = c .before .loop in let a = c .before .before .before .before .before .before .args in let e : l .j ≡ c .before .before .least .result = search needs in let s = store-done (a .out .now) (l .out) (a .text .now) (a .place) (l .j) (search needs) (e ∙ c .before .before .least .ensures) (l .inv .1) (l .inv .2) in (s .0, ap (λ (k : ℕ). a .place + k) (sym e) ∙ s .1)
+returns-2 c =
+    let l = c .before .loop in
+    let a = c .before .before .before .before .before .before .args in
+    let e : l .j ≡ c .before .before .least .result = search needs in
+    let s = store-done (a .out .now) (l .out) (a .text .now) (a .place) (l .j) (search needs) (e ∙ c .before .before .least .ensures) (l .inv .1) (l .inv .2) in
+    (s .0, ap (λ (k : ℕ). a .place + k) (sym e) ∙ s .1)
 
 pub put-text-spec : {M : Type 1} → statement M
 put-text-spec =

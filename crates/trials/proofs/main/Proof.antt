@@ -2,7 +2,6 @@ use Rattle.trials.proofs.main.Statement.{statement}
 use Rattle.trials.proofs.main.Tie as tie
 use Prim.Native.Nat.{_-_, _≤_}
 use borrow.Author.Needs.{needs}
-use Rattle.state.specs.State.{place}
 
 abbrev Inv-loop : tie.InvT-loop
 Inv-loop place₀ place = 0 ≤ 0

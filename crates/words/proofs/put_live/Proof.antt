@@ -6,7 +6,6 @@ use mathlib.Core.List.{_++_}
 use borrow.Author.Needs.{needs}
 use Rattle.names.specs.Names.{kindWord}
 use Rattle.rules.specs.Text.{ascii}
-use Rattle.state.specs.Labels.{label}
 use Rattle.text.specs.Stored.{then}
 use Rattle.words.specs.Sentences.{levelWord}
 
@@ -38,11 +37,20 @@ same-length : tie.Need-same-length
 same-length c = search needs
 
 returns : tie.Need-returns
-returns c = let a = c .before .before .before .before .before .before .before .before .before .before .before .before .before .before .before .before .before .before .before .before .before .before .before .before .args in
-    let s0 = then (a .out .now) _ _ (a .place) _ _ (ascii " (") (kindWord (a .o .kind)) (c .before .before .before .before .before .before .before .before .before .before .before .before .before .before .before .before .before .before .before .before .put-text .ensures) (c .before .before .before .before .before .before .before .before .before .before .before .before .before .before .before .before .put-kind .ensures) in
-    let s1 = then (a .out .now) _ _ (a .place) _ _ (ascii " (" ++ kindWord (a .o .kind)) (ascii ", level ") s0 (c .before .before .before .before .before .before .before .before .before .before .before .put-text2 .ensures) in
-    let s2 = then (a .out .now) _ _ (a .place) _ _ (ascii " (" ++ kindWord (a .o .kind) ++ ascii ", level ") (levelWord (a .o .label .level)) s1 (c .before .before .before .before .before .before .before .put-level .ensures) in
-    let s3 = then (a .out .now) _ _ (a .place) _ _ (ascii " (" ++ kindWord (a .o .kind) ++ ascii ", level " ++ levelWord (a .o .label .level)) (ascii ")") s2 (c .before .before .put-text3 .ensures) in
+returns c =
+    let a = c .before .before .before .before .before .before .before .before .before .before .before .before .before .before .before .before .before
+    .before .before .before .before .before .before .before .args in
+    let s0 = then (a .out .now) _ _ (a .place) _ _ (ascii " (") (kindWord (a .o .kind))
+    (c .before .before .before .before .before .before .before .before .before .before .before .before .before .before .before .before .before
+    .before .before .before .put-text .ensures)
+    (c .before .before .before .before .before .before .before .before .before .before .before .before .before .before .before .before .put-kind
+    .ensures) in
+    let s1 = then (a .out .now) _ _ (a .place) _ _ (ascii " (" ++ kindWord (a .o .kind)) (ascii ", level ") s0
+    (c .before .before .before .before .before .before .before .before .before .before .before .put-text2 .ensures) in
+    let s2 = then (a .out .now) _ _ (a .place) _ _ (ascii " (" ++ kindWord (a .o .kind) ++ ascii ", level ") (levelWord (a .o .label .level)) s1
+    (c .before .before .before .before .before .before .before .put-level .ensures) in
+    let s3 = then (a .out .now) _ _ (a .place) _ _ (ascii " (" ++ kindWord (a .o .kind) ++ ascii ", level " ++ levelWord (a .o .label .level))
+    (ascii ")") s2 (c .before .before .put-text3 .ensures) in
     s3
 
 pub put-live-spec : {M : Type 1} → statement M

@@ -6,7 +6,6 @@ use mathlib.Core.Path.{ap}
 use mathlib.Core.List.{_++_}
 use borrow.Author.Needs.{needs}
 use Rattle.names.specs.Names.{answerWord}
-use Rattle.state.specs.Answers.{code}
 use Rattle.text.specs.Stored.{then, as-text}
 use Rattle.words.specs.Sentences.{answerText}
 
@@ -25,7 +24,8 @@ same-length c = search needs
 returns : tie.Need-returns
 returns c = let a = c .before .before .before .before .before .before .before .before .before .before .before .args in
     let k = c .before .before .before .before .before .before .before .before .code in
-    let s0 = then (a .out .now) _ _ (a .place) _ _ (a .word .now) (answerWord (k .result)) (c .before .before .before .before .before .before .put-text .ensures) (c .before .before .put-answer .ensures) in
+    let s0 = then (a .out .now) _ _ (a .place) _ _ (a .word .now) (answerWord (k .result))
+    (c .before .before .before .before .before .before .put-text .ensures) (c .before .before .put-answer .ensures) in
     as-text (a .out .now) _ _ (answerText (a .word .now) (a .a)) (a .place) _ (ap (λ (x : ℕ). a .word .now ++ answerWord x) (k .ensures)) s0
 
 pub put-named-spec : {M : Type 1} → statement M

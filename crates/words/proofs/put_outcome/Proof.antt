@@ -7,7 +7,6 @@ use mathlib.Core.Path.{refl, _∙_, ap}
 use mathlib.Core.List.{_++_}
 use borrow.Author.Needs.{needs}
 use Rattle.names.specs.Names.{numberWord}
-use Rattle.rules.specs.Modules.{answers}
 use Rattle.rules.specs.Text.{ascii}
 use Rattle.state.specs.Outcomes.{answersOf}
 use Rattle.text.specs.Stored.{then, as-text}
@@ -41,13 +40,23 @@ same-length : tie.Need-same-length
 same-length c = search needs
 
 returns : tie.Need-returns
-returns c = let a = c .before .before .before .before .before .before .before .before .before .before .before .before .before .before .before .before .before .before .before .before .before .args in
-    let n = c .before .before .before .before .before .before .before .before .before .before .before .before .before .before .before .before .before .before .before .number in
-    let y = c .before .before .before .before .before .before .before .before .before .before .before .before .before .before .before .before .before .answers in
-    let s0 = then (a .out .now) _ _ (a .place) _ _ (answersText (y .result)) (pairText (ascii ": ") (n .result)) (c .before .before .before .before .before .before .before .before .before .before .before .before .before .before .before .before .put-answers .ensures) (c .before .before .before .before .before .before .before .before .before .before .before .put-pair .ensures) in
-    let s1 = then (a .out .now) _ _ (a .place) _ _ (answersText (y .result) ++ pairText (ascii ": ") (n .result)) (ascii " ") s0 (c .before .before .before .before .before .before .put-text .ensures) in
-    let s2 = then (a .out .now) _ _ (a .place) _ _ (answersText (y .result) ++ pairText (ascii ": ") (n .result) ++ ascii " ") (numberWord (n .result)) s1 (c .before .before .put-number .ensures) in
-    as-text (a .out .now) _ _ (outcomeText (a .o)) (a .place) _ (ap (λ (x : Answers). answersText x ++ pairText (ascii ": ") (n .result) ++ ascii " " ++ numberWord (n .result)) (y .ensures) ∙ ap (λ (x : ℕ). answersText (answersOf (a .o)) ++ pairText (ascii ": ") x ++ ascii " " ++ numberWord x) (n .ensures)) s2
+returns c =
+    let a = c .before .before .before .before .before .before .before .before .before .before .before .before .before .before .before .before .before
+    .before .before .before .before .args in
+    let n = c .before .before .before .before .before .before .before .before .before .before .before .before .before .before .before .before .before
+    .before .before .number in
+    let y = c .before .before .before .before .before .before .before .before .before .before .before .before .before .before .before .before .before
+    .answers in
+    let s0 = then (a .out .now) _ _ (a .place) _ _ (answersText (y .result)) (pairText (ascii ": ") (n .result))
+    (c .before .before .before .before .before .before .before .before .before .before .before .before .before .before .before .before
+    .put-answers .ensures) (c .before .before .before .before .before .before .before .before .before .before .before .put-pair .ensures) in
+    let s1 = then (a .out .now) _ _ (a .place) _ _ (answersText (y .result) ++ pairText (ascii ": ") (n .result)) (ascii " ") s0
+    (c .before .before .before .before .before .before .put-text .ensures) in
+    let s2 = then (a .out .now) _ _ (a .place) _ _ (answersText (y .result) ++ pairText (ascii ": ") (n .result) ++ ascii " ")
+    (numberWord (n .result)) s1 (c .before .before .put-number .ensures) in
+    as-text (a .out .now) _ _ (outcomeText (a .o)) (a .place) _
+    (ap (λ (x : Answers). answersText x ++ pairText (ascii ": ") (n .result) ++ ascii " " ++ numberWord (n .result)) (y .ensures) ∙ ap
+    (λ (x : ℕ). answersText (answersOf (a .o)) ++ pairText (ascii ": ") x ++ ascii " " ++ numberWord x) (n .ensures)) s2
 
 pub put-outcome-spec : {M : Type 1} → statement M
 put-outcome-spec =

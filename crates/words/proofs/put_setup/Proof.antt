@@ -6,7 +6,6 @@ use mathlib.Core.List.{[], _∷_, _++_}
 use borrow.Author.Needs.{needs}
 use Rattle.names.specs.Names.{numberWord}
 use Rattle.rules.specs.Text.{ascii}
-use Rattle.state.specs.Tests.{at}
 use Rattle.text.specs.Stored.{then, counts}
 use Rattle.words.specs.Sentences.{pairText, setupSentence}
 
@@ -42,11 +41,21 @@ same-length c = search needs
 
 returns : tie.Need-returns
 unfolding setupSentence
-returns c = let a = c .before .before .before .before .before .before .before .before .before .before .before .before .before .before .before .before .before .before .before .before .before .before .before .before .before .args in
-    let s0 = then (a .out .now) _ _ 0 _ _ (pairText (ascii "set-up refused at record ") (a .index)) (pairText (ascii ": ") (a .number)) (c .before .before .before .before .before .before .before .before .before .before .before .before .before .before .before .before .before .before .before .before .before .put-pair .ensures) (c .before .before .before .before .before .before .before .before .before .before .before .before .before .before .before .before .put-pair2 .ensures) in
-    let s1 = then (a .out .now) _ _ 0 _ _ (pairText (ascii "set-up refused at record ") (a .index) ++ pairText (ascii ": ") (a .number)) (ascii " ") s0 (c .before .before .before .before .before .before .before .before .before .before .before .put-text .ensures) in
-    let s2 = then (a .out .now) _ _ 0 _ _ (pairText (ascii "set-up refused at record ") (a .index) ++ pairText (ascii ": ") (a .number) ++ ascii " ") (numberWord (a .number)) s1 (c .before .before .before .before .before .before .before .put-number .ensures) in
-    let s3 = then (a .out .now) _ _ 0 _ _ (pairText (ascii "set-up refused at record ") (a .index) ++ pairText (ascii ": ") (a .number) ++ ascii " " ++ numberWord (a .number)) ((10 ∷ [])) s2 (c .before .before .put-text2 .ensures) in
+returns c =
+    let a = c .before .before .before .before .before .before .before .before .before .before .before .before .before .before .before .before .before
+    .before .before .before .before .before .before .before .before .args in
+    let s0 = then (a .out .now) _ _ 0 _ _ (pairText (ascii "set-up refused at record ") (a .index)) (pairText (ascii ": ") (a .number))
+    (c .before .before .before .before .before .before .before .before .before .before .before .before .before .before .before .before .before
+    .before .before .before .before .put-pair .ensures)
+    (c .before .before .before .before .before .before .before .before .before .before .before .before .before .before .before .before .put-pair2
+    .ensures) in
+    let s1 = then (a .out .now) _ _ 0 _ _ (pairText (ascii "set-up refused at record ") (a .index) ++ pairText (ascii ": ") (a .number))
+    (ascii " ") s0 (c .before .before .before .before .before .before .before .before .before .before .before .put-text .ensures) in
+    let s2 = then (a .out .now) _ _ 0 _ _ (pairText (ascii "set-up refused at record ") (a .index) ++ pairText (ascii ": ") (a .number) ++ ascii " ")
+    (numberWord (a .number)) s1 (c .before .before .before .before .before .before .before .put-number .ensures) in
+    let s3 = then (a .out .now) _ _ 0 _ _
+    (pairText (ascii "set-up refused at record ") (a .index) ++ pairText (ascii ": ") (a .number) ++ ascii " " ++ numberWord (a .number))
+    ((10 ∷ [])) s2 (c .before .before .put-text2 .ensures) in
     (s3, counts (a .out .now) _ (setupSentence (a .number) (a .index)) 0 _ s3)
 
 pub put-setup-spec : {M : Type 1} → statement M

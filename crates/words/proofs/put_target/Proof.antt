@@ -4,7 +4,6 @@ use Prim.{tt}
 use Rattle.rules.specs.declared.Request.{Request}
 use mathlib.Core.Path.{refl, sym, ap}
 use borrow.Author.Needs.{needs}
-use Rattle.state.specs.Labels.{given}
 use Rattle.text.specs.Stored.{as-text}
 use Rattle.words.specs.Sentences.{targetText}
 
@@ -78,49 +77,81 @@ same-length : tie.Need-same-length
 same-length c = search needs
 
 returns : tie.Need-returns
-returns c = let a = c .before .before .before .before .before .before .before .before .args in as-text (a .out .now) _ _ (targetText (a .k) (a .c) (a .o)) (a .place) _ (ap (λ (x : Request). targetText x (a .c) (a .o)) (sym (c .before .before .before .before .before .enum-told .given .1))) (c .before .before .put-pair .ensures)
+returns c =
+    let a = c .before .before .before .before .before .before .before .before .args in
+    as-text (a .out .now) _ _ (targetText (a .k) (a .c) (a .o)) (a .place) _
+    (ap (λ (x : Request). targetText x (a .c) (a .o)) (sym (c .before .before .before .before .before .enum-told .given .1)))
+    (c .before .before .put-pair .ensures)
 
 same-length-2 : tie.Need-same-length-2
 same-length-2 c = search needs
 
 returns-2 : tie.Need-returns-2
-returns-2 c = let a = c .before .before .before .before .before .before .before .before .args in as-text (a .out .now) _ _ (targetText (a .k) (a .c) (a .o)) (a .place) _ (ap (λ (x : Request). targetText x (a .c) (a .o)) (sym (c .before .before .before .before .before .enum-told2 .given .1))) (c .before .before .put-pair2 .ensures)
+returns-2 c =
+    let a = c .before .before .before .before .before .before .before .before .args in
+    as-text (a .out .now) _ _ (targetText (a .k) (a .c) (a .o)) (a .place) _
+    (ap (λ (x : Request). targetText x (a .c) (a .o)) (sym (c .before .before .before .before .before .enum-told2 .given .1)))
+    (c .before .before .put-pair2 .ensures)
 
 same-length-3 : tie.Need-same-length-3
 same-length-3 c = search needs
 
 returns-3 : tie.Need-returns-3
-returns-3 c = let a = c .before .before .before .before .before .before .before .before .args in as-text (a .out .now) _ _ (targetText (a .k) (a .c) (a .o)) (a .place) _ (ap (λ (x : Request). targetText x (a .c) (a .o)) (sym (c .before .before .before .before .before .enum-told3 .given .1))) (c .before .before .put-pair3 .ensures)
+returns-3 c =
+    let a = c .before .before .before .before .before .before .before .before .args in
+    as-text (a .out .now) _ _ (targetText (a .k) (a .c) (a .o)) (a .place) _
+    (ap (λ (x : Request). targetText x (a .c) (a .o)) (sym (c .before .before .before .before .before .enum-told3 .given .1)))
+    (c .before .before .put-pair3 .ensures)
 
 same-length-4 : tie.Need-same-length-4
 same-length-4 c = search needs
 
 returns-4 : tie.Need-returns-4
-returns-4 c = let a = c .before .before .before .before .before .before .before .before .args in as-text (a .out .now) _ _ (targetText (a .k) (a .c) (a .o)) (a .place) _ (ap (λ (x : Request). targetText x (a .c) (a .o)) (sym (c .before .before .before .before .before .enum-told4 .given .1))) (c .before .before .put-pair4 .ensures)
+returns-4 c =
+    let a = c .before .before .before .before .before .before .before .before .args in
+    as-text (a .out .now) _ _ (targetText (a .k) (a .c) (a .o)) (a .place) _
+    (ap (λ (x : Request). targetText x (a .c) (a .o)) (sym (c .before .before .before .before .before .enum-told4 .given .1)))
+    (c .before .before .put-pair4 .ensures)
 
 same-length-5 : tie.Need-same-length-5
 same-length-5 c = search needs
 
 returns-5 : tie.Need-returns-5
-returns-5 c = let a = c .before .before .before .before .before .before .before .before .args in as-text (a .out .now) _ _ (targetText (a .k) (a .c) (a .o)) (a .place) _ (ap (λ (x : Request). targetText x (a .c) (a .o)) (sym (c .before .before .before .before .before .enum-told5 .given .1))) (c .before .before .put-text .ensures)
+returns-5 c =
+    let a = c .before .before .before .before .before .before .before .before .args in
+    as-text (a .out .now) _ _ (targetText (a .k) (a .c) (a .o)) (a .place) _
+    (ap (λ (x : Request). targetText x (a .c) (a .o)) (sym (c .before .before .before .before .before .enum-told5 .given .1)))
+    (c .before .before .put-text .ensures)
 
 same-length-6 : tie.Need-same-length-6
 same-length-6 c = search needs
 
 returns-6 : tie.Need-returns-6
-returns-6 c = let a = c .before .before .before .before .before .before .before .args in as-text (a .out .now) _ _ (targetText (a .k) (a .c) (a .o)) (a .place) _ (ap (λ (x : Request). targetText x (a .c) (a .o)) (sym (c .before .before .before .before .enum-told6 .given .1))) (c .before .before .put-create .ensures)
+returns-6 c =
+    let a = c .before .before .before .before .before .before .before .args in
+    as-text (a .out .now) _ _ (targetText (a .k) (a .c) (a .o)) (a .place) _
+    (ap (λ (x : Request). targetText x (a .c) (a .o)) (sym (c .before .before .before .before .enum-told6 .given .1)))
+    (c .before .before .put-create .ensures)
 
 same-length-7 : tie.Need-same-length-7
 same-length-7 c = search needs
 
 returns-7 : tie.Need-returns-7
-returns-7 c = let a = c .before .before .before .before .before .before .before .args in as-text (a .out .now) _ _ (targetText (a .k) (a .c) (a .o)) (a .place) _ (ap (λ (x : Request). targetText x (a .c) (a .o)) (sym (c .before .before .before .before .enum-told7 .given .1))) (c .before .before .put-object .ensures)
+returns-7 c =
+    let a = c .before .before .before .before .before .before .before .args in
+    as-text (a .out .now) _ _ (targetText (a .k) (a .c) (a .o)) (a .place) _
+    (ap (λ (x : Request). targetText x (a .c) (a .o)) (sym (c .before .before .before .before .enum-told7 .given .1)))
+    (c .before .before .put-object .ensures)
 
 same-length-8 : tie.Need-same-length-8
 same-length-8 c = search needs
 
 returns-8 : tie.Need-returns-8
-returns-8 c = let a = c .before .before .before .before .before .before .before .before .args in as-text (a .out .now) _ _ (targetText (a .k) (a .c) (a .o)) (a .place) _ (ap (λ (x : Request). targetText x (a .c) (a .o)) (sym (c .before .before .before .before .before .enum-told8 .given .1))) (c .before .before .put-pair5 .ensures)
+returns-8 c =
+    let a = c .before .before .before .before .before .before .before .before .args in
+    as-text (a .out .now) _ _ (targetText (a .k) (a .c) (a .o)) (a .place) _
+    (ap (λ (x : Request). targetText x (a .c) (a .o)) (sym (c .before .before .before .before .before .enum-told8 .given .1)))
+    (c .before .before .put-pair5 .ensures)
 
 pub put-target-spec : {M : Type 1} → statement M
 put-target-spec =

@@ -4,7 +4,6 @@ use Prim.{tt}
 use Rattle.rules.specs.declared.Enforced.{Enforced}
 use mathlib.Core.Path.{ap}
 use borrow.Author.Needs.{needs}
-use Rattle.rules.specs.Calls.{enforce}
 use Rattle.text.specs.Stored.{as-text, counts}
 use Rattle.words.specs.Sentences.{sentence, sentence-is}
 
@@ -26,7 +25,9 @@ same-length c = search needs
 returns : tie.Need-returns
 returns c = let a = c .before .before .before .before .before .before .before .before .before .args in
     let e = c .before .before .before .before .before .before .enforce .ensures in
-    let z = as-text (a .out .now) _ _ (sentence (a .index) (a .f) (a .c)) 0 _ (sentence-is (a .index) (a .f) (a .c) _ _ _ (c .before .before .before .before .before .before .before .view-of .ensures) e (c .before .before .before .before .view-of2 .ensures)) (c .before .before .put-sentence .ensures) in
+    let z = as-text (a .out .now) _ _ (sentence (a .index) (a .f) (a .c)) 0 _
+    (sentence-is (a .index) (a .f) (a .c) _ _ _ (c .before .before .before .before .before .before .before .view-of .ensures) e
+    (c .before .before .before .before .view-of2 .ensures)) (c .before .before .put-sentence .ensures) in
     (z, (ap (λ (x : Enforced). x .facility) e, counts (a .out .now) _ (sentence (a .index) (a .f) (a .c)) 0 _ z))
 
 pub tell-spec : {M : Type 1} → statement M

@@ -1,7 +1,6 @@
 use Rattle.state.proofs.Facility.object.Statement.{statement}
 use Rattle.state.proofs.Facility.object.Tie as tie
 use borrow.Author.Needs.{needs}
-use Rattle.state.specs.State.{objectIn}
 
 object-at-requires : tie.Need-object-at-requires
 object-at-requires c κs = search needs

@@ -1,13 +1,34 @@
+-- Process p is stored as with_process stores it, and then its mark on object t gets the modes; a number that is none changes nothing.
+use Rattle.state.specs.State.{mostProcesses, mostOpens, processesIn, putProcess, putOpens, opensOf, addModes}
+use Rattle.state.specs.Views.{ProcessesShaped, opens-out, marks-of-none}
+use borrow.Author.Needs.{length-unmapped}
+use lib.ListN.{length}
+use mathlib.Core.Path.{_≡_, sym}
+use Prim.Native.Nat.{ℕ}
+use borrow.Author.Needs.{needs}
 use Rattle.state.proofs.Facility.opened.Statement.{statement}
 use Rattle.state.proofs.Facility.opened.Tie as tie
-use borrow.Author.Needs.{needs}
-use Rattle.state.specs.State.{opensOf}
 
-mul-i : tie.Need-mul-i
-mul-i c = search needs
+mark-place-requires : tie.Need-mark-place-requires
+mark-place-requires c κs = search needs
 
-add-i : tie.Need-add-i
-add-i c = search needs
+element-write-self : tie.Need-element-write-self
+element-write-self c = search needs
+
+element-write-self-2 : tie.Need-element-write-self-2
+element-write-self-2 c = search needs
+
+element-write-self-3 : tie.Need-element-write-self-3
+element-write-self-3 c = search needs
+
+element-write-self-4 : tie.Need-element-write-self-4
+element-write-self-4 c = search needs
+
+element-write-self-5 : tie.Need-element-write-self-5
+element-write-self-5 c = search needs
+
+element-write-self-6 : tie.Need-element-write-self-6
+element-write-self-6 c = search needs
 
 at-requires : tie.Need-at-requires
 at-requires c κs = search needs
@@ -15,13 +36,55 @@ at-requires c κs = search needs
 add-modes-requires : tie.Need-add-modes-requires
 add-modes-requires c κs = search needs
 
-with-marks-requires : tie.Need-with-marks-requires
-with-marks-requires c κs = search needs
+element-write-self-7 : tie.Need-element-write-self-7
+element-write-self-7 c = search needs
 
 returns : tie.Need-returns
-unfolding opensOf
-returns c = rw (c .with-marks .ensures, c .before .add-modes .ensures, c .before .before .at .ensures)
+unfolding putProcess putOpens opensOf
+returns c = rw (c .add-modes .ensures, c .before .at .ensures, c .before .before .before .before .before .before .before .mark-place .ensures)
+
+returns-2 : tie.Need-returns-2
+unfolding putProcess
+returns-2 c =
+    let a = c .before .before .before .args in
+    let f = a .t1 in
+    let g = c .before .before .before .good .0 .1 .1 .1 .1 .1 .1 .1 .1 .1 .1 .1 .1 .1 .1 .1 in
+    let n : length (f .opens) ≡ mostOpens = length-unmapped ℕ (f .opens) mostOpens (g .1 .1 .1 .1 .1 .1 .0 .1 .0 .1) in
+    let e = c .before .before .mark-place .ensures in
+    sym (opens-out (putProcess f (a .p) (a .r)) _ _ n (search (needs, e, c .if2 .left)))
+
+returns-3 : tie.Need-returns-3
+returns-3 c =
+    let a = c .before .before .args in
+    let f = a .t1 in
+    let g = c .before .before .good .0 .1 .1 .1 .1 .1 .1 .1 .1 .1 .1 .1 .1 .1 .1 .1 in
+    let s : ProcessesShaped (processesIn f) =
+    record {
+      runnings = length-unmapped ℕ (f .runnings) mostProcesses (g .0 .1 .0 .1);
+      owners = length-unmapped ℕ (f .owners) mostProcesses (g .1 .0 .1 .0 .1);
+      currents = length-unmapped ℕ (f .currents) mostProcesses (g .1 .1 .0 .1 .0 .1);
+      readmarks = length-unmapped ℕ (f .readmarks) mostProcesses (g .1 .1 .1 .0 .1 .0 .1);
+      writemarks = length-unmapped ℕ (f .writemarks) mostProcesses (g .1 .1 .1 .1 .0 .1 .0 .1);
+      automatics = length-unmapped ℕ (f .automatics) mostProcesses (g .1 .1 .1 .1 .1 .0 .1 .0 .1);
+    } in
+    let n : length (f .opens) ≡ mostOpens = length-unmapped ℕ (f .opens) mostOpens (g .1 .1 .1 .1 .1 .1 .0 .1 .0 .1) in
+    sym (marks-of-none f (a .p) (a .t) (λ x. addModes x (a .modes)) (a .r) s n (c .if1 .left))
 
 pub opened-spec : {M : Type 1} → statement M
 opened-spec =
-    tie.close (tie.spec mul-i add-i at-requires add-modes-requires with-marks-requires returns)
+    tie.close
+    (tie.spec
+    mark-place-requires
+    (λ c. search needs)
+    element-write-self
+    element-write-self-2
+    element-write-self-3
+    element-write-self-4
+    element-write-self-5
+    element-write-self-6
+    at-requires
+    add-modes-requires
+    element-write-self-7
+    returns
+    returns-2
+    returns-3)

@@ -1,7 +1,6 @@
 use Rattle.state.proofs.Facility.user.Statement.{statement}
 use Rattle.state.proofs.Facility.user.Tie as tie
 use borrow.Author.Needs.{needs}
-use Rattle.state.specs.State.{userIn}
 
 user-at-requires : tie.Need-user-at-requires
 user-at-requires c κs = search needs

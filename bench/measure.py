@@ -1,0 +1,143 @@
+"""Measures and prints the tables of docs/PERFORMANCE.md; with --page it also puts them between the page's markers. Run by bench/run."""
+
+import os
+import re
+import subprocess
+import sys
+
+import programs
+
+ROOT = programs.ROOT
+PAGE = os.path.join(ROOT, "docs", "PERFORMANCE.md")
+ASKED_IN_PLACE, ASKED_OF_PROGRAM = 2.0, 2.5
+
+
+def pin():
+    """Stays on one core, so that no program is moved while it is timed. Whether it can."""
+    try:
+        os.sched_setaffinity(0, {max(os.sched_getaffinity(0))})
+        return True
+    except (AttributeError, OSError):
+        return False
+
+
+def lines(program):
+    """The fields of each line that a program of target/bench prints."""
+    got = subprocess.run([os.path.join(ROOT, "target", "bench", program)], stdout=subprocess.PIPE, check=False, text=True)
+    if got.returncode != 0:
+        sys.exit("%s: %s" % (program, got.stdout))
+    return [line.split("\t") for line in got.stdout.splitlines()]
+
+
+def table(head, rows):
+    """A table of Markdown; `-` where nothing was measured."""
+    cells = [head] + [["-" if cell is None else str(cell) for cell in row] for row in rows]
+    widths = [max(len(row[k]) for row in cells) for k in range(len(head))]
+    written = ["| " + " | ".join(cell.ljust(width) for cell, width in zip(row, widths)) + " |" for row in cells]
+    return "\n".join([written[0], "|" + "|".join("-" * (width + 2) for width in widths) + "|"] + written[1:])
+
+
+def number(text):
+    return None if text == "-" else float(text)
+
+
+def tenths(x):
+    return None if x is None else "%.1f" % x
+
+
+def ratio(a, b):
+    return None if a is None or b is None else tenths(a / b)
+
+
+def spread(*pairs):
+    """By how much the median of the rounds is above the best one, of the worst."""
+    known = [100 * (median / best - 1) for best, median in pairs if best is not None]
+    return "%.0f %%" % max(known) if known else None
+
+
+def timed(fields):
+    """Of a line of bench: name, and best and median of where it is (proved, plain) and by value (proved, plain)."""
+    figures = [number(x) for x in fields[2:]]
+    return fields[1], [tuple(figures[k:k + 2]) for k in range(0, len(figures), 2)]
+
+
+def call_rows(rows):
+    for name, (at, plain, value, plain_value) in rows:
+        rate = None if at[0] is None else "%.1f" % (1e3 / at[0])
+        yield [name, tenths(at[0]), tenths(plain[0]), ratio(at[0], plain[0]), rate, spread(at, plain),
+               tenths(value[0]), tenths(plain_value[0]), ratio(value[0], plain_value[0]), spread(value, plain_value)]
+
+
+def against(asked, taken, plain):
+    return "%.2f, %s" % (taken / plain, "reached" if taken <= asked * plain else "missed")
+
+
+def target_rows(rows, times):
+    for name, (at, plain, value, plain_value) in rows:
+        yield [name, ASKED_IN_PLACE, against(ASKED_IN_PLACE, at[0], plain[0]), ratio(value[0], plain[0]), ratio(plain_value[0], plain[0])]
+    yield ["run program", ASKED_OF_PROGRAM, against(ASKED_OF_PROGRAM, times["proved"][0], times["plain"][0]), None, None]
+
+
+def run_rows(times):
+    for name, key in (("proved", "proved"), ("plain C", "plain"), ("model", "model")):
+        best, median = times[key]
+        yield [name, "%.3f" % best, "%.0f" % (programs.CALLS / best), ratio(best, times["plain"][0]), spread((best, median))]
+
+
+def machine(pinned, load):
+    """What it is measured on; a load above 0.5 before the start says that something else was running."""
+    try:
+        with open("/proc/cpuinfo", encoding="utf8") as file:
+            names = [line.split(":", 1)[1].strip() for line in file if line.startswith("model name")]
+    except OSError:
+        names = []
+    return "%s, %d cores, %s, load average %.1f before it" % (
+        names[0] if names else "processor not known", os.cpu_count(), "pinned to one" if pinned else "not pinned", load)
+
+
+def sections():
+    """The text of each part of the page, by its marker's name."""
+    load = os.getloadavg()[0]
+    pinned = pin()
+    measured = lines("bench")
+    calls = [timed(line) for line in measured if line[0] == "call"]
+    wholes = [timed(line) for line in measured if line[0] == "whole"]
+    trials, taken = [line[1:] for line in measured if line[0] == "agreement"][0]
+    copies = [line[1:] for line in lines("copies")]
+    times, accepted, stack = programs.measured()
+    return {
+        "agreement": "Measured on: %s. Agreement before it: %s random calls, %s accepted, none differs." % (machine(pinned, load), trials, taken),
+        "calls": table(["ns for each call", "where it is: proved", "plain C", "ratio", "million/s", "spread", "by value: proved", "plain C",
+                        "ratio", "spread"], call_rows(calls)),
+        "wholes": table(["ns", "where it is: proved", "by value: proved", "plain C", "ratio where it is", "ratio by value", "spread"],
+                        [[name, tenths(f[0][0]), tenths(f[2][0]), tenths(f[1][0]), ratio(f[0][0], f[1][0]), ratio(f[2][0], f[1][0]), spread(*f[:3])]
+                         for name, f in wholes]),
+        "programs": table(["program", "seconds", "calls/s", "to plain C", "spread"], run_rows(times))
+                    + "\n\n%d calls, %d accepted; the model's seconds are ten times those of a tenth of the calls." % (programs.CALLS, accepted),
+        "copies": table(["call", "copies"], copies),
+        "targets": table(["", "asked for", "where it is", "by value", "plain C by value"], target_rows(calls, times)),
+        "stack": "The run program needs %s KB of stack (64 KB of it the output buffer)." % stack,
+    }
+
+
+def put_page(parts):
+    with open(PAGE, encoding="utf8") as file:
+        page = file.read()
+    for name, text in parts.items():
+        begin, end = "<!-- bench/run: %s -->" % name, "<!-- end -->"
+        page, found = re.subn(re.escape(begin) + ".*?" + re.escape(end), lambda _, t=text: "%s\n%s\n%s" % (begin, t, end), page, flags=re.S)
+        if found != 1:
+            sys.exit("%s: no place for %s" % (PAGE, name))
+    with open(PAGE, "w", encoding="utf8") as file:
+        file.write(page)
+
+
+def main():
+    parts = sections()
+    print("\n\n".join(parts.values()))
+    if sys.argv[1:] == ["--page"]:
+        put_page(parts)
+
+
+if __name__ == "__main__":
+    main()

@@ -1,0 +1,217 @@
+-- "State": the blank facility, the fresh process, the counter's stop, the marks of opens, and each way in which a facility changes.
+use Prim.Native.Nat.{ℕ, zero, suc}
+use mathlib.Core.Path.{_≡_, refl}
+use mathlib.Core.Bool.{true, false}
+use mathlib.Core.List.{List, [], _∷_, _++_, map}
+use lib.ListN.{replicate}
+use Rattle.state.specs.Tests.{at}
+use Rattle.state.specs.Labels.{label, leq, same, join, meet, given, lawful}
+use Rattle.state.specs.State.{processOf, objectOf, userOf, runs, live, isUser, trustedUser, labelOf, clearanceOf, isAutomatic}
+use Rattle.state.specs.State.{reading, writing, addModes, putProcess, putUser, putObject, dropObject, putRefusals}
+use Rattle.state.specs.State.{closeObject, closeProcess, copyProcess, addUser, addObject, counted}
+use Rattle.state.specs.State.{freshProcess, noProcess, blank, cloned, opened, closed, deleted, terminated}
+use Rattle.rules.specs.Types.{Process, User, Object, Facility}
+use Rattle.rules.specs.Computed.{everything, userBytes, objectBytes, processBytes, openBytes, counts}
+
+-- levels are compared by number, the larger and the smaller of two, 255 is unset, 15 the last that a process may have
+pub levels :
+    (leq (label 1) (label 2) ∷ leq (label 2) (label 2) ∷ leq (label 3) (label 2) ∷ [])
+    ∷ (same (label 2) (label 2) ∷ same (label 1) (label 2) ∷ same (label 2) (label 1) ∷ [])
+    ∷ (given (label 0) ∷ given (label 15) ∷ given (label 255) ∷ [])
+    ∷ (lawful (label 0) ∷ lawful (label 15) ∷ lawful (label 16) ∷ lawful (label 255) ∷ [])
+    ∷ []
+    ≡ (true ∷ true ∷ false ∷ []) ∷ (true ∷ false ∷ false ∷ []) ∷ (true ∷ true ∷ false ∷ [])
+    ∷ (true ∷ true ∷ false ∷ false ∷ []) ∷ []
+unfolding everything
+levels = refl
+
+pub larger-and-smaller :
+    join (label 1) (label 2) ∷ join (label 2) (label 1) ∷ meet (label 1) (label 2) ∷ meet (label 2) (label 1) ∷ []
+    ≡ label 2 ∷ label 2 ∷ label 1 ∷ label 1 ∷ []
+unfolding everything
+larger-and-smaller = refl
+
+-- "A fresh facility has no process, no refusals counted": 16 users, 128 objects, 32 processes, all of it 0 but the switches
+abbrev arrays : Facility → List (List ℕ)
+arrays f =
+    f .clearances ∷ f .roles ∷ f .trusts
+    ∷ f .lives ∷ f .kinds ∷ f .levels ∷ f .categories ∷ f .datatypes
+    ∷ f .runnings ∷ f .owners ∷ f .currents ∷ f .readmarks ∷ f .writemarks ∷ f .automatics ∷ []
+
+pub blank-facility :
+    (counts (blank 1 2 3) ∷ arrays (blank 1 2 3)) ++ (blank 1 2 3 .opens ∷ [])
+    ≡ (1 ∷ 2 ∷ 3 ∷ 0 ∷ 0 ∷ 0 ∷ [])
+    ∷ replicate 16 0 ∷ replicate 16 0 ∷ replicate 16 0
+    ∷ replicate 128 0 ∷ replicate 128 0 ∷ replicate 128 0 ∷ replicate 128 0 ∷ replicate 128 0
+    ∷ replicate 32 0 ∷ replicate 32 0 ∷ replicate 32 0 ∷ replicate 32 0 ∷ replicate 32 0 ∷ replicate 32 0
+    ∷ replicate 4096 0 ∷ []
+unfolding everything
+blank-facility = refl
+
+-- "Login: current 0, read mark 0, write mark 15, automatic on"; of a process that does not run nothing is kept
+pub fresh-process :
+    freshProcess 7 ∷ noProcess ∷ []
+    ≡ record { running = 1; owner = 7; current = label 0; readmark = label 0; writemark = label 15; automatic = 1 }
+    ∷ record { running = 0; owner = 0; current = label 0; readmark = label 0; writemark = label 0; automatic = 0 }
+    ∷ []
+unfolding everything
+fresh-process = refl
+
+-- "at 4,294,967,295 it stays"
+pub counter-stop :
+    map (λ n. counted (putRefusals (blank 0 0 0) n) .refusals) (0 ∷ 4294967293 ∷ 4294967294 ∷ 4294967295 ∷ [])
+    ≡ 1 ∷ 4294967294 ∷ 4294967295 ∷ 4294967295 ∷ []
+unfolding everything
+counter-stop = refl
+
+-- "open for reading and open for writing are two marks": 1 and 2; opens add their modes
+pub open-marks :
+    (map reading (0 ∷ 1 ∷ 2 ∷ 3 ∷ []) ∷ map writing (0 ∷ 1 ∷ 2 ∷ 3 ∷ []) ∷ [])
+    ≡ (false ∷ true ∷ false ∷ true ∷ []) ∷ (false ∷ false ∷ true ∷ true ∷ []) ∷ []
+unfolding everything
+open-marks = refl
+
+pub added-modes :
+    map (addModes 0) (0 ∷ 1 ∷ 2 ∷ 3 ∷ []) ∷ map (addModes 1) (0 ∷ 1 ∷ 2 ∷ 3 ∷ [])
+    ∷ map (addModes 2) (0 ∷ 1 ∷ 2 ∷ 3 ∷ []) ∷ map (addModes 3) (0 ∷ 1 ∷ 2 ∷ 3 ∷ []) ∷ []
+    ≡ (0 ∷ 1 ∷ 2 ∷ 3 ∷ []) ∷ (1 ∷ 1 ∷ 3 ∷ 3 ∷ []) ∷ (2 ∷ 3 ∷ 2 ∷ 3 ∷ []) ∷ (3 ∷ 3 ∷ 3 ∷ 3 ∷ []) ∷ []
+unfolding everything
+added-modes = refl
+
+-- A facility with users 0 and 1, objects 0 and 1, processes 0 and 31, and seven refusals.
+abbrev user0 : User
+user0 = record { clearance = label 12; role = 1; trusted = 0 }
+
+abbrev user1 : User
+user1 = record { clearance = label 3; role = 2; trusted = 1 }
+
+abbrev object0 : Object
+object0 = record { live = 1; kind = 0; label = label 4; category = 1; datatype = 1 }
+
+abbrev object1 : Object
+object1 = record { live = 1; kind = 2; label = label 255; category = 255; datatype = 0 }
+
+abbrev process0 : Process
+process0 = record { running = 1; owner = 1; current = label 5; readmark = label 2; writemark = label 9; automatic = 1 }
+
+abbrev process31 : Process
+process31 = record { running = 1; owner = 0; current = label 6; readmark = label 3; writemark = label 8; automatic = 0 }
+
+abbrev filled : Facility
+filled =
+    putRefusals
+    (opened (opened (putProcess (putProcess (putObject (putObject (putUser (putUser
+    (blank 1 0 1) user0) user1) object0) object1) 0 process0) 31 process31) 0 1 3) 31 0 2)
+    7
+
+-- all that stands in a facility of two users, two objects, and processes 0, 1 and 31, but for the opens; and the opens
+abbrev contents : Facility → List (List ℕ)
+contents f =
+    counts f ∷ userBytes f 0 ∷ userBytes f 1 ∷ objectBytes f 0 ∷ objectBytes f 1 ∷ processBytes f 0 ∷ processBytes f 1 ∷ processBytes f 31 ∷ []
+
+abbrev openMarks : Facility → List (List ℕ)
+openMarks f = openBytes f 0 2 ∷ openBytes f 1 2 ∷ openBytes f 31 2 ∷ []
+
+pub facility-contents :
+    contents filled ++ openMarks filled
+    ≡ (1 ∷ 0 ∷ 1 ∷ 2 ∷ 2 ∷ 7 ∷ []) ∷ (12 ∷ 1 ∷ 0 ∷ []) ∷ (3 ∷ 2 ∷ 1 ∷ [])
+    ∷ (1 ∷ 0 ∷ 4 ∷ 1 ∷ 1 ∷ []) ∷ (1 ∷ 2 ∷ 255 ∷ 255 ∷ 0 ∷ [])
+    ∷ (1 ∷ 1 ∷ 5 ∷ 2 ∷ 9 ∷ 1 ∷ []) ∷ (0 ∷ 0 ∷ 0 ∷ 0 ∷ 0 ∷ 0 ∷ []) ∷ (1 ∷ 0 ∷ 6 ∷ 3 ∷ 8 ∷ 0 ∷ [])
+    ∷ (0 ∷ 3 ∷ []) ∷ (0 ∷ 0 ∷ []) ∷ (2 ∷ 0 ∷ []) ∷ []
+unfolding everything
+facility-contents = refl
+
+-- what is read off it
+pub read-off :
+    (processOf filled 0 ≡ process0) × (processOf filled 31 ≡ process31) × (objectOf filled 0 ≡ object0) × (objectOf filled 1 ≡ object1)
+    × (userOf filled 0 ≡ user0) × (userOf filled 1 ≡ user1)
+unfolding everything
+read-off = (refl, refl, refl, refl, refl, refl)
+
+pub read-off-tests :
+    map (runs filled) (0 ∷ 1 ∷ 31 ∷ 32 ∷ []) ∷ map (live (dropObject filled 0)) (0 ∷ 1 ∷ 2 ∷ [])
+    ∷ map (isUser filled) (0 ∷ 1 ∷ 2 ∷ []) ∷ map (trustedUser filled) (0 ∷ 1 ∷ 2 ∷ [])
+    ∷ (isAutomatic process0 ∷ isAutomatic process31 ∷ []) ∷ []
+    ≡ (true ∷ false ∷ true ∷ false ∷ []) ∷ (false ∷ true ∷ false ∷ [])
+    ∷ (true ∷ true ∷ false ∷ []) ∷ (false ∷ true ∷ false ∷ []) ∷ (true ∷ false ∷ []) ∷ []
+unfolding everything
+read-off-tests = refl
+
+pub read-off-levels :
+    labelOf filled 0 ∷ labelOf filled 1 ∷ clearanceOf filled 0 ∷ clearanceOf filled 1 ∷ []
+    ≡ label 4 ∷ label 255 ∷ label 12 ∷ label 3 ∷ []
+unfolding everything
+read-off-levels = refl
+
+-- Each change, and that it leaves all else. Process 1 becomes a clone of 0:
+pub cloned-process :
+    (contents (cloned filled 0 1)
+    ≡ (1 ∷ 0 ∷ 1 ∷ 2 ∷ 2 ∷ 7 ∷ []) ∷ (12 ∷ 1 ∷ 0 ∷ []) ∷ (3 ∷ 2 ∷ 1 ∷ [])
+    ∷ (1 ∷ 0 ∷ 4 ∷ 1 ∷ 1 ∷ []) ∷ (1 ∷ 2 ∷ 255 ∷ 255 ∷ 0 ∷ [])
+    ∷ (1 ∷ 1 ∷ 5 ∷ 2 ∷ 9 ∷ 1 ∷ []) ∷ (1 ∷ 1 ∷ 5 ∷ 2 ∷ 9 ∷ 1 ∷ []) ∷ (1 ∷ 0 ∷ 6 ∷ 3 ∷ 8 ∷ 0 ∷ []) ∷ [])
+    × ((cloned filled 0 1) .opens ≡ copyProcess (filled .opens) 0 1)
+unfolding everything
+cloned-process = (refl, refl)
+
+-- 31 terminates:
+pub terminated-process :
+    (contents (terminated filled 31)
+    ≡ (1 ∷ 0 ∷ 1 ∷ 2 ∷ 2 ∷ 7 ∷ []) ∷ (12 ∷ 1 ∷ 0 ∷ []) ∷ (3 ∷ 2 ∷ 1 ∷ [])
+    ∷ (1 ∷ 0 ∷ 4 ∷ 1 ∷ 1 ∷ []) ∷ (1 ∷ 2 ∷ 255 ∷ 255 ∷ 0 ∷ [])
+    ∷ (1 ∷ 1 ∷ 5 ∷ 2 ∷ 9 ∷ 1 ∷ []) ∷ (0 ∷ 0 ∷ 0 ∷ 0 ∷ 0 ∷ 0 ∷ []) ∷ (0 ∷ 0 ∷ 0 ∷ 0 ∷ 0 ∷ 0 ∷ []) ∷ [])
+    × ((terminated filled 31) .opens ≡ closeProcess (filled .opens) 31)
+unfolding everything
+terminated-process = (refl, refl)
+
+-- object 1 is deleted: it keeps what else it had
+pub deleted-object :
+    (contents (deleted filled 1)
+    ≡ (1 ∷ 0 ∷ 1 ∷ 2 ∷ 2 ∷ 7 ∷ []) ∷ (12 ∷ 1 ∷ 0 ∷ []) ∷ (3 ∷ 2 ∷ 1 ∷ [])
+    ∷ (1 ∷ 0 ∷ 4 ∷ 1 ∷ 1 ∷ []) ∷ (0 ∷ 2 ∷ 255 ∷ 255 ∷ 0 ∷ [])
+    ∷ (1 ∷ 1 ∷ 5 ∷ 2 ∷ 9 ∷ 1 ∷ []) ∷ (0 ∷ 0 ∷ 0 ∷ 0 ∷ 0 ∷ 0 ∷ []) ∷ (1 ∷ 0 ∷ 6 ∷ 3 ∷ 8 ∷ 0 ∷ []) ∷ [])
+    × ((deleted filled 1) .opens ≡ closeObject (filled .opens) 1)
+unfolding everything
+deleted-object = (refl, refl)
+
+-- processes 31 and 1 open an object, 0 closes one
+pub opened-and-closed :
+    contents (closed (opened (opened filled 31 0 1) 1 1 2) 0 1) ++ openMarks (closed (opened (opened filled 31 0 1) 1 1 2) 0 1)
+    ≡ (1 ∷ 0 ∷ 1 ∷ 2 ∷ 2 ∷ 7 ∷ []) ∷ (12 ∷ 1 ∷ 0 ∷ []) ∷ (3 ∷ 2 ∷ 1 ∷ [])
+    ∷ (1 ∷ 0 ∷ 4 ∷ 1 ∷ 1 ∷ []) ∷ (1 ∷ 2 ∷ 255 ∷ 255 ∷ 0 ∷ [])
+    ∷ (1 ∷ 1 ∷ 5 ∷ 2 ∷ 9 ∷ 1 ∷ []) ∷ (0 ∷ 0 ∷ 0 ∷ 0 ∷ 0 ∷ 0 ∷ []) ∷ (1 ∷ 0 ∷ 6 ∷ 3 ∷ 8 ∷ 0 ∷ [])
+    ∷ (0 ∷ 0 ∷ []) ∷ (0 ∷ 2 ∷ []) ∷ (3 ∷ 0 ∷ []) ∷ []
+unfolding everything
+opened-and-closed = refl
+
+-- the counter, and no more: one refusal
+pub counted-once :
+    contents (counted filled) ++ openMarks (counted filled)
+    ≡ (1 ∷ 0 ∷ 1 ∷ 2 ∷ 2 ∷ 8 ∷ []) ∷ (12 ∷ 1 ∷ 0 ∷ []) ∷ (3 ∷ 2 ∷ 1 ∷ [])
+    ∷ (1 ∷ 0 ∷ 4 ∷ 1 ∷ 1 ∷ []) ∷ (1 ∷ 2 ∷ 255 ∷ 255 ∷ 0 ∷ [])
+    ∷ (1 ∷ 1 ∷ 5 ∷ 2 ∷ 9 ∷ 1 ∷ []) ∷ (0 ∷ 0 ∷ 0 ∷ 0 ∷ 0 ∷ 0 ∷ []) ∷ (1 ∷ 0 ∷ 6 ∷ 3 ∷ 8 ∷ 0 ∷ [])
+    ∷ (0 ∷ 3 ∷ []) ∷ (0 ∷ 0 ∷ []) ∷ (2 ∷ 0 ∷ []) ∷ []
+unfolding everything
+counted-once = refl
+
+-- where the marks of process p and object t stand: 128 to each process
+pub mark-places :
+    map (at (filled .opens)) (1 ∷ 3968 ∷ 3969 ∷ []) ≡ 3 ∷ 2 ∷ 0 ∷ []
+unfolding everything
+mark-places = refl
+
+-- n more users, and n more objects
+abbrev users : ℕ → Facility
+users zero = blank 0 0 0
+users (suc n) = addUser (users n) user0
+
+abbrev objects : ℕ → Facility
+objects zero = blank 0 0 0
+objects (suc n) = addObject (objects n) object0
+
+-- at most 16 users and 128 objects
+pub rooms :
+    (users 16 .users ∷ users 17 .users ∷ objects 128 .entered ∷ objects 129 .entered ∷ [])
+    ∷ userBytes (users 16) 15 ∷ objectBytes (objects 128) 127 ∷ []
+    ≡ (16 ∷ 16 ∷ 128 ∷ 128 ∷ []) ∷ (12 ∷ 1 ∷ 0 ∷ []) ∷ (1 ∷ 0 ∷ 4 ∷ 1 ∷ 1 ∷ []) ∷ []
+unfolding everything
+rooms = refl
