@@ -67,7 +67,8 @@ static int agree(void)
     long accepted = 0;
     for (long k = 0, left = 0; k < TRIALS; k++, left--) {
         if (left == 0) {
-            uint8_t s[HV_SETUP_MOST], index, out[HV_SETUP_MOST];
+            uint8_t s[HV_SETUP_MOST], out[HV_SETUP_MOST];
+            uint16_t index;
             size_t n = random_setup(s, (int)random_below(8));
             if (random_below(10) == 0) s[random_below((uint32_t)n)] = (uint8_t)random_below(256);
             uint8_t number = plain_read_setup(&plain, s, n, &index);
@@ -262,7 +263,8 @@ static void in_place_setup(const list *l)
 {
     for (int k = 0; k < l->n; k++) {
         static hv_facility f;
-        uint8_t index, out[HV_SETUP_MOST];
+        uint8_t out[HV_SETUP_MOST];
+        uint16_t index;
         plain_read_setup(&f, setup_bytes, setup_length, &index);
         sink = (uint32_t)plain_write_setup(&f, out, sizeof out);
     }
@@ -272,7 +274,7 @@ int main(void)
 {
     static list l;
     static hv_facility f, start;
-    uint8_t index;
+    uint16_t index;
     if (!agree()) return 1;
     seed = 7;
     setup_length = random_setup(setup_bytes, 7);

@@ -217,7 +217,7 @@ static uint8_t record_number(const hv_facility *f, const uint8_t *r, size_t i)
     }
 }
 
-uint8_t plain_read_setup(hv_facility *f, const uint8_t *bytes, size_t length, uint8_t *index)
+uint8_t plain_read_setup(hv_facility *f, const uint8_t *bytes, size_t length, uint16_t *index)
 {
     memset(f, 0, sizeof *f);
     *index = 0;
@@ -227,7 +227,7 @@ uint8_t plain_read_setup(hv_facility *f, const uint8_t *bytes, size_t length, ui
         uint8_t number = record_number(f, r, i);
         if (number != 0) {
             memset(f, 0, sizeof *f);
-            *index = (uint8_t)i;
+            *index = (uint16_t)i;
             return number;
         }
         switch (r[0]) {

@@ -32,7 +32,7 @@ static int flush(const char *from, size_t n)
 int main(void)
 {
     static hv_facility f;
-    uint8_t index;
+    uint16_t index;
     size_t n = 0;
     FILE *file = fopen("setup.bin", "rb");
     if (file) {

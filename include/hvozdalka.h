@@ -123,7 +123,7 @@ typedef struct hv_facility {
 typedef struct hv_outcome { uint8_t number, mac, fc, sim, combined, object; } hv_outcome;
 
 typedef struct hv_enforced { hv_facility facility; hv_outcome outcome; } hv_enforced;
-typedef struct hv_reading { hv_facility facility; uint8_t number, index; } hv_reading;
+typedef struct hv_reading { hv_facility facility; uint8_t number; uint16_t index; } hv_reading;
 typedef struct hv_writing { size_t length; uint8_t number; } hv_writing;
 typedef struct hv_printed { hv_facility facility; size_t length; } hv_printed;
 
@@ -151,7 +151,7 @@ hv_enforced hv_enforce(hv_facility f, uint8_t request, uint8_t process, uint8_t 
 hv_outcome hv_query_at(const hv_facility *f, uint8_t request, uint8_t process, uint8_t target, uint8_t extra);
 hv_outcome hv_enforce_at(hv_facility *f, uint8_t request, uint8_t process, uint8_t target, uint8_t extra);
 
-/* The facility of a set-up after calls of four bytes each; one to three left-over bytes are no call. [replayed, calls/Replayed] */
+/* The facility of a set-up after calls of four bytes each; one to three left-over bytes are no call. [replayed, history/Replayed] */
 hv_facility hv_replay(const uint8_t *setup, size_t setup_length, const uint8_t *calls, size_t calls_length);
 
 /* Whether object x holds the matter of object c after the calls. [holds, rules/Matter] */
@@ -159,7 +159,7 @@ bool hv_holds(const uint8_t *setup, size_t setup_length, const uint8_t *calls, s
 
 /* The lines that the run program prints for a block of calls, the first of which has index `first`, stored at the front of `out`, and the
  * facility after them. What does not fit is cut off: HV_LINE_MOST for each call and HV_SHORT_MOST hold it all. Where `first` is 2^63 or
- * more no call is made. [blockText, facilityAfter, lines/Printed] */
+ * more no call is made. [blockText, facilityAfter, lines/Blocks] */
 hv_printed hv_put_block(hv_facility f, uint64_t first, const uint8_t *calls, size_t calls_length, uint8_t *out, size_t out_length);
 
 /* The same on a facility where it is, which becomes the facility after them; the padding stays. How many bytes the lines have. */

@@ -41,7 +41,7 @@ _Static_assert(offsetof(hv_facility, opens) == 885, "opens");
 _Static_assert(offsetof(hv_facility, refusals) == 4984, "refusals");
 _Static_assert(sizeof(hv_facility) == 4988, "facility");
 _Static_assert(offsetof(hv_enforced, outcome) == 4988 && sizeof(hv_enforced) == 4996, "enforced");
-_Static_assert(offsetof(hv_reading, number) == 4988 && offsetof(hv_reading, index) == 4989 && sizeof(hv_reading) == 4992, "reading");
+_Static_assert(offsetof(hv_reading, number) == 4988 && offsetof(hv_reading, index) == 4990 && sizeof(hv_reading) == 4992, "reading");
 _Static_assert(offsetof(hv_printed, length) == 4992 && sizeof(hv_printed) == 5000, "printed");
 _Static_assert(sizeof(hv_outcome) == 6 && offsetof(hv_outcome, object) == 5, "outcome");
 _Static_assert(sizeof(hv_writing) == 16 && offsetof(hv_writing, number) == 8, "writing");

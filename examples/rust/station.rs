@@ -11,7 +11,7 @@ pub struct Facility([u8; 4988]);
 pub struct Reading {
     pub facility: Facility,
     pub number: u8,
-    pub index: u8,
+    pub index: u16,
 }
 
 #[repr(C)]
@@ -57,7 +57,7 @@ const SETUP: [u8; 32] = [
 
 impl Facility {
     /// The fresh facility of a set-up, or the refusal number and the index of the record.
-    pub fn read(setup: &[u8]) -> Result<Facility, (u8, u8)> {
+    pub fn read(setup: &[u8]) -> Result<Facility, (u8, u16)> {
         // Safe: the pointer and the length are those of a slice, and the function is total.
         let r = unsafe { hv_read_setup(setup.as_ptr(), setup.len()) };
         if r.number == 0 { Ok(r.facility) } else { Err((r.number, r.index)) }

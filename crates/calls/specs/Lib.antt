@@ -1,4 +1,2 @@
--- The ordered questions in three parts, as the code asks them, and the loops over lists of calls.
-pub mod Parts
-pub mod Listed
-pub mod Replayed
+-- Laws of query and enforce.
+pub mod Laws

@@ -3,12 +3,13 @@ use Prim.Native.Nat.{ℕ}
 use mathlib.Core.Path.{_≡_, sym, _∙_, ap}
 use Rattle.state.specs.declared.Call.{Call}
 use Rattle.state.specs.declared.Facility.{Facility}
-use Rattle.state.specs.declared.Outcome.{Outcome}
-use Rattle.state.specs.declared.SetupOutcome.{SetupOutcome}
-use Rattle.state.specs.declared.WriteOutcome.{WriteOutcome}
-use Rattle.state.specs.State.{opensOf, addModes}
-use Rattle.state.specs.Answers.{code}
-use Rattle.state.specs.Outcomes.{numberOf, answersOf, objectNumberOf, setupNumber, setupIndex, writeNumber, writeLength}
+use Rattle.answers.specs.declared.Outcome.{Outcome}
+use Rattle.answers.specs.declared.SetupOutcome.{SetupOutcome}
+use Rattle.answers.specs.declared.WriteOutcome.{WriteOutcome}
+use Rattle.state.specs.State.{opensOf}
+use Rattle.opens.specs.Opens.{addModes}
+use Rattle.answers.specs.Answers.{code}
+use Rattle.answers.specs.Outcomes.{numberOf, answersOf, objectNumberOf, setupNumber, setupIndex, writeNumber, writeLength}
 use Rattle.rules.specs.declared.Enforced.{Enforced}
 use Rattle.rules.specs.declared.Reading.{Reading}
 use Rattle.hvozdalka.specs.declared.CallOutcome.{CallOutcome}

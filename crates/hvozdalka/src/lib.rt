@@ -1,25 +1,25 @@
 // The facility for C and Rust: `include/hvozdalka.h` declares these functions. Each is total: any bytes, any numbers, any facility.
 ghost use mathlib.Core.Path.{_≡_};
-ghost use Rattle.calls.specs.Replayed.{replayed};
+ghost use Rattle.history.specs.Replayed.{replayed};
 ghost use Rattle.hvozdalka.specs.Numbers.{callOf, enforcedNumbers, openMarks, outcomeNumbers, readingNumbers, summaryOf, writingNumbers};
 ghost use Rattle.in_place.specs.Layout.{facilityAt};
 ghost use Rattle.in_place.specs.Stores.{Becomes};
-ghost use Rattle.lines.specs.Printed.{blockText, facilityAfter};
+ghost use Rattle.lines.specs.Blocks.{blockText, facilityAfter};
 ghost use Rattle.rules.specs.Calls.{after, enforce, query};
 ghost use Rattle.rules.specs.Lines.{callsOf};
 ghost use Rattle.rules.specs.Matter.{holds};
 ghost use Rattle.rules.specs.Setup.{readSetup, writeSetup};
 ghost use Rattle.state.specs.State.{objectOf, processOf, userOf};
 ghost use Rattle.text.specs.Stored.{Stored};
+use answers::Outcome;
+use answers::SetupOutcome;
+use answers::WriteOutcome;
 use lines::Printed;
 use state::Call;
 use state::Facility;
 use state::Object;
-use state::Outcome;
 use state::Process;
-use state::SetupOutcome;
 use state::User;
-use state::WriteOutcome;
 
 // A call's refusal number, the answers of the modules and their combination, and the object number that an accepted create gave (else 255).
 #[repr(C)]
@@ -42,7 +42,7 @@ pub struct CallEnforced {
 pub struct SetupReading {
     pub facility: Facility,
     pub number: u8,
-    pub index: u8,
+    pub index: u16,
 }
 
 #[repr(C)]
@@ -208,7 +208,7 @@ pub extern "C" fn hv_enforce_at(
 pub extern "C" fn hv_replay(setup: &[u8], calls: &[u8]) -> Facility
     ensures { λ r. ⌜ r ≡ replayed (now (setup .entry)) (now (calls .entry)) ⌝ }
 {
-    calls::replay(setup, calls)
+    history::replay(setup, calls)
 }
 
 // Whether object x holds the matter of object c after the calls.
@@ -216,7 +216,7 @@ pub extern "C" fn hv_replay(setup: &[u8], calls: &[u8]) -> Facility
 pub extern "C" fn hv_holds(setup: &[u8], calls: &[u8], x: u8, c: u8) -> bool
     ensures { λ r. ⌜ r ≡ holds (now (setup .entry)) (callsOf (now (calls .entry))) x c ⌝ }
 {
-    calls::holds(setup, calls, x, c)
+    history::holds(setup, calls, x, c)
 }
 
 // The lines of the run program for a block of calls.
@@ -269,8 +269,8 @@ pub extern "C" fn hv_object(f: Facility, t: u8) -> Object
 pub extern "C" fn hv_open_marks(f: Facility, p: u8, t: u8) -> u8
     ensures { λ r. ⌜ r ≡ openMarks f p t ⌝ }
 {
-    let marks = state::at(&f.opens, state::mark_place(p, t) as usize);
-    state::add_modes(marks, 0)
+    let marks = state::at(&f.opens, opens::mark_place(p, t) as usize);
+    opens::add_modes(marks, 0)
 }
 
 // Switches and counters.

@@ -1,12 +1,9 @@
 -- The bytes of a facility, as `include/hvozdalka.h` lays them out: where each field stands, and the facility that they are.
-use Prim.Native.Nat.{ℕ, zero, suc, _+_, _*_, _≤_, _<_}
-use mathlib.Core.Path.{_≡_, sym, _∙_}
+use Prim.Native.Nat.{ℕ, zero, suc, _+_, _*_}
 use mathlib.Core.List.{List, [], _∷_}
-use lib.ListN.{take, drop, length-take, List·getD-eq-default}
-use lib.Seq.{getD-take, getD-drop}
-use native.Mathlib.Omega.{arith}
+use lib.ListN.{take, drop}
+use Rattle.labels.specs.Decisions.{at}
 use Rattle.state.specs.declared.Facility.{Facility}
-use Rattle.state.specs.Tests.{at}
 
 -- the sizes of the fields in order; the last but one is padding
 abbrev pub sizes : List ℕ
@@ -133,12 +130,3 @@ facilityOf g =
 -- the facility of bytes
 unfoldable pub facilityAt : List ℕ → Facility
 facilityAt s = facilityOf (fieldOf s)
-
--- a byte of a part, and past its end
-pub byte-in : (s : List ℕ) (from n i : ℕ) → i < n → at s (from + i) ≡ at (part s from n) i
-byte-in s from n i h = sym (getD-take n (drop from s) i 0 h ∙ getD-drop from s i 0)
-
-pub byte-past : (s : List ℕ) (from n i : ℕ) → n ≤ i → 0 ≡ at (part s from n) i
-byte-past s from n i h =
-    let e = length-take n (drop from s) in
-    sym (List·getD-eq-default (part s from n) 0 {n = i} (omega arith))

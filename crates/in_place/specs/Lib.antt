@@ -1,5 +1,5 @@
--- A facility in the bytes of a C struct.
+-- Definitions beside document 01's: the bytes of a facility.
 pub mod Layout
 pub mod Stores
-pub mod Changes
-pub mod Whole
+pub mod Fields
+pub mod Laws

@@ -3,32 +3,39 @@ ghost use Prim.Native.Nat.{_+_, _≤_};
 ghost use mathlib.Core.Path.{_≡_};
 ghost use lib.ListN.{length};
 ghost use lib.Seq.{sets};
-ghost use mathlib.Core.Logic.{_≢_};
 ghost use Rattle.in_place.specs.Layout.{facilityAt, fieldOf, part, wholeSize};
-ghost use Rattle.in_place.specs.Changes.{storeObject};
-ghost use Rattle.in_place.specs.Stores.{Becomes, storeIn};
-ghost use Rattle.in_place.specs.Whole.{Fields, countsPut, objectsPut, processesPut, usersPut};
-ghost use Rattle.calls.specs.Parts.{afterNumber, briefOf, processNumber};
+ghost use Rattle.in_place.specs.Stores.{storeObject, Becomes, storeIn};
+ghost use Rattle.in_place.specs.Fields.{Fields, countsPut, objectsPut, processesPut, usersPut};
+ghost use Rattle.questions.specs.Parts.{processNumber};
 ghost use Rattle.rules.specs.Calls.{after, query};
-ghost use Rattle.rules.specs.Effects.{effectFrom, openBy};
-ghost use Rattle.rules.specs.Modules.{viewOf};
-ghost use Rattle.rules.specs.Requests.{requestOf};
-ghost use Rattle.rules.specs.declared.Request.{Request};
-ghost use Rattle.state.specs.Labels.{label};
-ghost use Rattle.state.specs.Loops.{clearColumn, clearRow, copyRow};
-ghost use Rattle.state.specs.State.{addObject, cloned, closeProcess, copyProcess, counted, deleted, objectOf, objectsFrom, opened, opensOf, processOf};
-ghost use Rattle.state.specs.State.{processesFrom, putMarks, putOpens, putProcess, putRefusals, terminated, userOf, usersFrom};
-ghost use Rattle.state.specs.Views.{ObjectsShaped, ProcessesShaped, UsersShaped};
-ghost use Rattle.state.specs.Tests.{at};
-use rules::OpenChange;
+ghost use Rattle.rules.specs.Modules.{targetOf, viewOf};
+ghost use Rattle.rules.specs.Questions.{runsOf};
+ghost use Rattle.rules.specs.Requests.{actionOf};
+ghost use Rattle.labels.specs.Labels.{label};
+ghost use Rattle.labels.specs.Decisions.{at};
+ghost use Rattle.opens.specs.Opens.{closeObject, closeProcess, copyProcess};
+ghost use Rattle.state.specs.State.{addObject, changed, cloned, counted, deleted, objectOf, objectsFrom, openBy, opened, opensOf, processOf};
+ghost use Rattle.state.specs.State.{processesFrom, putMarks, putOpens, putProcess, putRefusals, switchesOf, terminated, userOf, usersFrom};
+ghost use Rattle.state.specs.Shaped.{ObjectsShaped, ProcessesShaped, UsersShaped};
+use answers::Outcome;
+use labels::Label;
+use opens::OpenChange;
+use rules::Runs;
+use rules::Target;
 use rules::View;
 use state::Call;
+use state::Change;
 use state::Facility;
-use state::Label;
 use state::Object;
-use state::Outcome;
 use state::Process;
+use state::Switches;
 use state::User;
+
+const USER_COUNT: u16 = state::USERS as u16;
+
+const PROCESS_COUNT: u16 = opens::PROCESSES as u16;
+
+const OBJECT_COUNT: u16 = opens::OBJECTS as u16;
 
 // Where each field of a facility stands: one behind the other, in the order of the struct.
 const MAC: u16 = 0;
@@ -41,37 +48,39 @@ const USERS: u16 = SIM + 1;
 
 const CLEARANCES: u16 = USERS + 1;
 
-const ROLES: u16 = CLEARANCES + 16;
+const ROLES: u16 = CLEARANCES + USER_COUNT;
 
-const TRUSTS: u16 = ROLES + 16;
+const TRUSTS: u16 = ROLES + USER_COUNT;
 
-const ENTERED: u16 = TRUSTS + 16;
+const ENTERED: u16 = TRUSTS + USER_COUNT;
 
 const LIVES: u16 = ENTERED + 1;
 
-const KINDS: u16 = LIVES + 128;
+const KINDS: u16 = LIVES + OBJECT_COUNT;
 
-const LEVELS: u16 = KINDS + 128;
+const LEVELS: u16 = KINDS + OBJECT_COUNT;
 
-const CATEGORIES: u16 = LEVELS + 128;
+const CATEGORIES: u16 = LEVELS + OBJECT_COUNT;
 
-const DATATYPES: u16 = CATEGORIES + 128;
+const DATATYPES: u16 = CATEGORIES + OBJECT_COUNT;
 
-const RUNNINGS: u16 = DATATYPES + 128;
+const RUNNINGS: u16 = DATATYPES + OBJECT_COUNT;
 
-const OWNERS: u16 = RUNNINGS + 32;
+const OWNERS: u16 = RUNNINGS + PROCESS_COUNT;
 
-const CURRENTS: u16 = OWNERS + 32;
+const CURRENTS: u16 = OWNERS + PROCESS_COUNT;
 
-const READMARKS: u16 = CURRENTS + 32;
+const READMARKS: u16 = CURRENTS + PROCESS_COUNT;
 
-const WRITEMARKS: u16 = READMARKS + 32;
+const WRITEMARKS: u16 = READMARKS + PROCESS_COUNT;
 
-const AUTOMATICS: u16 = WRITEMARKS + 32;
+const AUTOMATICS: u16 = WRITEMARKS + PROCESS_COUNT;
 
-const OPENS: u16 = AUTOMATICS + 32;
+const OPENS: u16 = AUTOMATICS + PROCESS_COUNT;
+
+const PADDING: u16 = OPENS + opens::PAIRS;
 // Three bytes of padding stand before the counter.
-const REFUSALS: u16 = OPENS + 4096 + 3;
+const REFUSALS: u16 = PADDING + 3;
 
 pub const SIZE: usize = (REFUSALS as usize) + 4;
 
@@ -99,12 +108,12 @@ fn process_in(s: &[u8], p: u8) -> Process
 {
     let i = p as u16;
     Process {
-        running: byte_in(s, RUNNINGS, 32, i),
-        owner: byte_in(s, OWNERS, 32, i),
-        current: label_in(s, CURRENTS, 32, i),
-        readmark: label_in(s, READMARKS, 32, i),
-        writemark: label_in(s, WRITEMARKS, 32, i),
-        automatic: byte_in(s, AUTOMATICS, 32, i),
+        running: byte_in(s, RUNNINGS, PROCESS_COUNT, i),
+        owner: byte_in(s, OWNERS, PROCESS_COUNT, i),
+        current: label_in(s, CURRENTS, PROCESS_COUNT, i),
+        readmark: label_in(s, READMARKS, PROCESS_COUNT, i),
+        writemark: label_in(s, WRITEMARKS, PROCESS_COUNT, i),
+        automatic: byte_in(s, AUTOMATICS, PROCESS_COUNT, i),
     }
 }
 
@@ -114,9 +123,9 @@ fn user_in(s: &[u8], u: u8) -> User
 {
     let i = u as u16;
     User {
-        clearance: label_in(s, CLEARANCES, 16, i),
-        role: byte_in(s, ROLES, 16, i),
-        trusted: byte_in(s, TRUSTS, 16, i),
+        clearance: label_in(s, CLEARANCES, USER_COUNT, i),
+        role: byte_in(s, ROLES, USER_COUNT, i),
+        trusted: byte_in(s, TRUSTS, USER_COUNT, i),
     }
 }
 
@@ -126,11 +135,11 @@ fn object_in(s: &[u8], t: u8) -> Object
 {
     let i = t as u16;
     Object {
-        live: byte_in(s, LIVES, 128, i),
-        kind: byte_in(s, KINDS, 128, i),
-        label: label_in(s, LEVELS, 128, i),
-        category: byte_in(s, CATEGORIES, 128, i),
-        datatype: byte_in(s, DATATYPES, 128, i),
+        live: byte_in(s, LIVES, OBJECT_COUNT, i),
+        kind: byte_in(s, KINDS, OBJECT_COUNT, i),
+        label: label_in(s, LEVELS, OBJECT_COUNT, i),
+        category: byte_in(s, CATEGORIES, OBJECT_COUNT, i),
+        datatype: byte_in(s, DATATYPES, OBJECT_COUNT, i),
     }
 }
 
@@ -139,7 +148,33 @@ fn opens_in(s: &[u8], p: u8, t: u8) -> u8
     requires { ⌜ length (now s) ≡ wholeSize ⌝ }
     ensures { λ r. ⌜ r ≡ opensOf (facilityAt (now (s .entry))) p t ⌝ }
 {
-    byte_in(s, OPENS, 4096, state::mark_place(p, t))
+    byte_in(s, OPENS, opens::PAIRS, opens::mark_place(p, t))
+}
+
+// The switches.
+fn switches_in(s: &[u8]) -> Switches
+    requires { ⌜ length (now s) ≡ wholeSize ⌝ }
+    ensures { λ r. ⌜ r ≡ switchesOf (facilityAt (now (s .entry))) ⌝ }
+{
+    Switches {
+        mac: byte_in(s, MAC, 1, 0),
+        fc: byte_in(s, FC, 1, 0),
+        sim: byte_in(s, SIM, 1, 0),
+    }
+}
+
+// The target of process p.
+fn target_in(s: &[u8], p: u8, t: u8) -> Target
+    requires { ⌜ length (now s) ≡ wholeSize ⌝ }
+    ensures { λ r. ⌜ r ≡ targetOf (facilityAt (now (s .entry))) p t ⌝ }
+{
+    let receiver = process_in(s, t);
+    let object = object_in(s, t);
+    Target {
+        receiver,
+        object,
+        opens: opens_in(s, p, t),
+    }
 }
 
 // What a call looks at.
@@ -149,79 +184,42 @@ fn view_in(s: &[u8], c: Call) -> View
 {
     let caller = process_in(s, c.process);
     let owner = user_in(s, caller.owner);
-    let receiver = process_in(s, c.target);
-    let object = object_in(s, c.target);
+    let target = target_in(s, c.process, c.target);
+    let switches = switches_in(s);
     View {
-        mac: byte_in(s, MAC, 1, 0),
-        fc: byte_in(s, FC, 1, 0),
-        sim: byte_in(s, SIM, 1, 0),
+        switches,
         users: byte_in(s, USERS, 1, 0),
         entered: byte_in(s, ENTERED, 1, 0),
         caller,
         owner,
-        receiver,
-        object,
-        opens: opens_in(s, c.process, c.target),
+        target,
     }
 }
 
 // What questions 1 to 5 look at: most refused calls need no more.
-fn brief_in(s: &[u8], c: Call) -> View
+fn runs_in(s: &[u8], c: Call) -> Runs
     requires { ⌜ length (now s) ≡ wholeSize ⌝ }
-    ensures { λ r. ⌜ r ≡ briefOf (viewOf (facilityAt (now (s .entry))) c) ⌝ }
+    ensures { λ r. ⌜ r ≡ runsOf (viewOf (facilityAt (now (s .entry))) c) ⌝ }
 {
-    let none = Label::of(0);
-    let runs = Process {
-        running: byte_in(s, RUNNINGS, 32, c.process as u16),
-        owner: 0,
-        current: none,
-        readmark: none,
-        writemark: none,
-        automatic: 0,
-    };
-    View {
-        mac: 0,
-        fc: 0,
-        sim: 0,
+    Runs {
         users: byte_in(s, USERS, 1, 0),
-        entered: 0,
-        caller: runs,
-        owner: User {
-            clearance: none,
-            role: 0,
-            trusted: 0,
-        },
-        receiver: Process {
-            running: byte_in(s, RUNNINGS, 32, c.target as u16),
-            owner: 0,
-            current: none,
-            readmark: none,
-            writemark: none,
-            automatic: 0,
-        },
-        object: Object {
-            live: 0,
-            kind: 0,
-            label: none,
-            category: 0,
-            datatype: 0,
-        },
-        opens: 0,
+        caller: byte_in(s, RUNNINGS, PROCESS_COUNT, c.process as u16),
+        receiver: byte_in(s, RUNNINGS, PROCESS_COUNT, c.target as u16),
     }
 }
 
 // The number by which one of the questions 1 to 5 refuses, or 0. After the two tests no later one asks whether the caller's number is one.
 fn first_number(s: &[u8], c: Call) -> u8
     requires { ⌜ length (now s) ≡ wholeSize ⌝ }
-    ensures { λ r. ⌜ r ≡ processNumber (requestOf (c .request)) (viewOf (facilityAt (now (s .entry))) c) c 0 ⌝ }
+    ensures { λ r. ⌜ r ≡ processNumber (actionOf (c .request)) (runsOf (viewOf (facilityAt (now (s .entry))) c)) c 0 ⌝ }
 {
-    if 22 <= c.request {
+    if requests::LAST < c.request {
         return 1;
     }
-    if 32 <= c.process {
+    if opens::PROCESSES <= c.process {
         return 2;
     }
-    calls::process_number(brief_in(s, c), c, 0)
+    questions::process_number(runs_in(s, c), c, 0)
 }
 
 fn query(s: &[u8], c: Call) -> Outcome
@@ -232,8 +230,8 @@ fn query(s: &[u8], c: Call) -> Outcome
     if number != 0 {
         return Outcome::Refused { number };
     }
-    let k = decide::request_of(c.request);
-    calls::outcome_later(k, view_in(s, c), c)
+    let k = requests::action_of(c.request);
+    questions::outcome_later(k, view_in(s, c), c)
 }
 
 // What enforce would give.
@@ -262,84 +260,42 @@ fn put_process(s: &mut [u8], p: u8, r: Process)
     ensures { λ x. ⌜ Becomes (now (s .entry)) (now (s .exit)) (putProcess (facilityAt (now (s .entry))) p r) ⌝ }
 {
     let i = p as u16;
-    put_in(s, RUNNINGS, 32, i, r.running);
-    put_in(s, OWNERS, 32, i, r.owner);
-    put_in(s, CURRENTS, 32, i, r.current.level);
-    put_in(s, READMARKS, 32, i, r.readmark.level);
-    put_in(s, WRITEMARKS, 32, i, r.writemark.level);
-    put_in(s, AUTOMATICS, 32, i, r.automatic);
+    put_in(s, RUNNINGS, PROCESS_COUNT, i, r.running);
+    put_in(s, OWNERS, PROCESS_COUNT, i, r.owner);
+    put_in(s, CURRENTS, PROCESS_COUNT, i, r.current.level);
+    put_in(s, READMARKS, PROCESS_COUNT, i, r.readmark.level);
+    put_in(s, WRITEMARKS, PROCESS_COUNT, i, r.writemark.level);
+    put_in(s, AUTOMATICS, PROCESS_COUNT, i, r.automatic);
 }
 
 // The marks of process p on object t become v.
 fn put_marks(s: &mut [u8], p: u8, t: u8, v: u8)
     ensures { λ x. ⌜ Becomes (now (s .entry)) (now (s .exit)) (putMarks (facilityAt (now (s .entry))) p t v) ⌝ }
 {
-    put_in(s, OPENS, 4096, state::mark_place(p, t), v);
+    put_in(s, OPENS, opens::PAIRS, opens::mark_place(p, t), v);
 }
 
-// The marks of process p are cleared, one by one.
-fn clear_row(s: &mut [u8], p: u8)
-    ensures { λ x. ⌜ Becomes (now (s .entry)) (now (s .exit)) (putOpens (facilityAt (now (s .entry))) (clearRow (facilityAt (now (s .entry)) .opens) p)) ⌝ }
-{
-    let mut k: u8 = 0;
-    while k < 128 {
-        put_in(s, OPENS, 4096, (p as u16) * 128 + (k as u16), 0);
-        k += 1;
-    }
-}
-
-// The marks of process t become those of p.
-fn copy_row(s: &mut [u8], p: u8, t: u8)
-    requires { ⌜ (length (now s) ≡ wholeSize) × (p ≢ t) ⌝ }
-    ensures { λ x. ⌜ Becomes (now (s .entry)) (now (s .exit)) (putOpens (facilityAt (now (s .entry))) (copyRow (facilityAt (now (s .entry)) .opens) p t)) ⌝ }
-{
-    let mut k: u8 = 0;
-    while k < 128 {
-        let v = opens_in(s, p, k);
-        put_in(s, OPENS, 4096, (t as u16) * 128 + (k as u16), v);
-        k += 1;
-    }
-}
-
-// The marks on object t are cleared.
-fn clear_column(s: &mut [u8], t: u8)
-    ensures { λ x. ⌜ Becomes (now (s .entry)) (now (s .exit)) (putOpens (facilityAt (now (s .entry))) (clearColumn (facilityAt (now (s .entry)) .opens) t)) ⌝ }
-{
-    let mut k: u8 = 0;
-    while k < 32 {
-        put_in(s, OPENS, 4096, (k as u16) * 128 + (t as u16), 0);
-        k += 1;
-    }
-}
-
-// All marks of process p are dropped.
+// The opens, lent to those who know them.
 fn close_process(s: &mut [u8], p: u8)
     requires { ⌜ length (now s) ≡ wholeSize ⌝ }
     ensures { λ x. ⌜ Becomes (now (s .entry)) (now (s .exit)) (putOpens (facilityAt (now (s .entry))) (closeProcess (facilityAt (now (s .entry)) .opens) p)) ⌝ }
 {
-    if 32 <= p {
-        return;
-    }
-    clear_row(s, p);
+    opens::close_process(&mut s[OPENS as usize..PADDING as usize], p);
 }
 
-// Process t gets the marks of p.
 fn copy_process(s: &mut [u8], p: u8, t: u8)
     requires { ⌜ length (now s) ≡ wholeSize ⌝ }
     ensures { λ x. ⌜ Becomes (now (s .entry)) (now (s .exit)) (putOpens (facilityAt (now (s .entry)))
         (copyProcess (facilityAt (now (s .entry)) .opens) p t)) ⌝ }
 {
-    if 32 <= t {
-        return;
-    }
-    if p == t {
-        return;
-    }
-    if 32 <= p {
-        clear_row(s, t);
-        return;
-    }
-    copy_row(s, p, t);
+    opens::copy_process(&mut s[OPENS as usize..PADDING as usize], p, t);
+}
+
+fn close_object(s: &mut [u8], t: u8)
+    requires { ⌜ length (now s) ≡ wholeSize ⌝ }
+    ensures { λ x. ⌜ Becomes (now (s .entry)) (now (s .exit)) (putOpens (facilityAt (now (s .entry))) (closeObject (facilityAt (now (s .entry)) .opens) t)) ⌝ }
+{
+    opens::close_object(&mut s[OPENS as usize..PADDING as usize], t);
 }
 
 // Process p terminates.
@@ -366,22 +322,19 @@ fn delete(s: &mut [u8], t: u8)
     requires { ⌜ length (now s) ≡ wholeSize ⌝ }
     ensures { λ x. ⌜ Becomes (now (s .entry)) (now (s .exit)) (deleted (facilityAt (now (s .entry))) t) ⌝ }
 {
-    if 128 <= t {
-        return;
-    }
-    clear_column(s, t);
-    put_in(s, LIVES, 128, t as u16, 0);
+    close_object(s, t);
+    put_in(s, LIVES, OBJECT_COUNT, t as u16, 0);
 }
 
 // The attributes of object i.
 fn put_object(s: &mut [u8], i: u16, o: Object)
     ensures { λ x. ⌜ fieldOf (now (s .exit)) ≡ storeObject (fieldOf (now (s .entry))) i o ⌝ }
 {
-    put_in(s, LIVES, 128, i, o.live);
-    put_in(s, KINDS, 128, i, o.kind);
-    put_in(s, LEVELS, 128, i, o.label.level);
-    put_in(s, CATEGORIES, 128, i, o.category);
-    put_in(s, DATATYPES, 128, i, o.datatype);
+    put_in(s, LIVES, OBJECT_COUNT, i, o.live);
+    put_in(s, KINDS, OBJECT_COUNT, i, o.kind);
+    put_in(s, LEVELS, OBJECT_COUNT, i, o.label.level);
+    put_in(s, CATEGORIES, OBJECT_COUNT, i, o.category);
+    put_in(s, DATATYPES, OBJECT_COUNT, i, o.datatype);
 }
 
 // The next object number is given to an object, where there is one.
@@ -390,7 +343,7 @@ fn add_object(s: &mut [u8], o: Object)
     ensures { λ x. ⌜ Becomes (now (s .entry)) (now (s .exit)) (addObject (facilityAt (now (s .entry))) o) ⌝ }
 {
     let n = byte_in(s, ENTERED, 1, 0);
-    if n < 128 {
+    if n < opens::OBJECTS {
         put_object(s, n as u16, o);
         put_in(s, ENTERED, 1, 0, n + 1);
     }
@@ -424,7 +377,7 @@ fn count(s: &mut [u8])
     ensures { λ x. ⌜ Becomes (now (s .entry)) (now (s .exit)) (counted (facilityAt (now (s .entry)))) ⌝ }
 {
     let n = refusals_in(s);
-    if n < 4294967295 {
+    if n < state::MOST_REFUSALS {
         put_refusals(s, n + 1);
     }
 }
@@ -435,7 +388,7 @@ fn add_open(s: &mut [u8], p: u8, t: u8, modes: u8)
     ensures { λ x. ⌜ Becomes (now (s .entry)) (now (s .exit)) (opened (facilityAt (now (s .entry))) p t modes) ⌝ }
 {
     let marks = opens_in(s, p, t);
-    put_marks(s, p, t, state::add_modes(marks, modes));
+    put_marks(s, p, t, opens::add_modes(marks, modes));
 }
 
 // What a request on an object does to the opens.
@@ -451,58 +404,38 @@ fn open_by(change: OpenChange, s: &mut [u8], p: u8, t: u8)
     }
 }
 
-fn effect_on_object(s: &mut [u8], v: View, c: Call)
+// Process p becomes r, and the opens of object t change.
+fn use_object(s: &mut [u8], p: u8, r: Process, t: u8, opens: OpenChange)
     requires { ⌜ length (now s) ≡ wholeSize ⌝ }
-    ensures { λ x. ⌜ Becomes (now (s .entry)) (now (s .exit)) (effectFrom Request.OnObject (facilityAt (now (s .entry))) v c) ⌝ }
+    ensures { λ x. ⌜ Becomes (now (s .entry)) (now (s .exit)) (openBy opens (putProcess (facilityAt (now (s .entry))) p r) p t) ⌝ }
 {
-    let change = decide::open_change(c.request);
-    put_process(s, c.process, decide::moved(v, c));
-    open_by(change, s, c.process, c.target);
+    put_process(s, p, r);
+    open_by(opens, s, p, t);
 }
 
-fn effect_create(s: &mut [u8], v: View, c: Call)
+// Process p becomes r, and an object is entered.
+fn create_object(s: &mut [u8], p: u8, r: Process, o: Object)
     requires { ⌜ length (now s) ≡ wholeSize ⌝ }
-    ensures { λ x. ⌜ Becomes (now (s .entry)) (now (s .exit)) (effectFrom Request.Create (facilityAt (now (s .entry))) v c) ⌝ }
+    ensures { λ x. ⌜ Becomes (now (s .entry)) (now (s .exit)) (addObject (putProcess (facilityAt (now (s .entry))) p r) o) ⌝ }
 {
-    if decide::in_directory(c.extra) {
-        let r = decide::moved(v, c);
-        put_process(s, c.process, r);
-        add_object(s, decide::created(r, c.extra));
-        return;
-    }
-    let caller = v.caller;
-    add_object(s, decide::created(caller, c.extra));
+    put_process(s, p, r);
+    add_object(s, o);
 }
 
-// What an accepted call does; v is what the call looks at.
-fn effect(s: &mut [u8], v: View, c: Call)
+// A change, made where the facility is.
+fn make(change: Change, s: &mut [u8])
     requires { ⌜ length (now s) ≡ wholeSize ⌝ }
-    ensures { λ x. ⌜ Becomes (now (s .entry)) (now (s .exit)) (effectFrom (requestOf (c .request)) (facilityAt (now (s .entry))) v c) ⌝ }
+    ensures { λ x. ⌜ Becomes (now (s .entry)) (now (s .exit)) (changed (facilityAt (now (s .entry))) change) ⌝ }
 {
-    let request = c.request;
-    match request {
-        2 => clone(s, c.process, c.target),
-        4 => effect_create(s, v, c),
-        16 => {}
-        17 => put_process(s, c.process, decide::levelled(v, c)),
-        18 => terminate(s, c.process),
-        21 => put_process(s, c.process, Process::fresh(c.extra)),
-        22..=255 => {}
-        _ => effect_on_object(s, v, c),
-    }
-}
-
-// The facility after a call with this number.
-fn after_number(number: u8, s: &mut [u8], v: View, c: Call)
-    requires { ⌜ length (now s) ≡ wholeSize ⌝ }
-    ensures { λ x. ⌜ Becomes (now (s .entry)) (now (s .exit)) (afterNumber number (facilityAt (now (s .entry))) v c) ⌝ }
-{
-    if number == 0 {
-        effect(s, v, c);
-        return;
-    }
-    if state::is_denial(number) {
-        count(s);
+    match change {
+        Change::NoChange => {}
+        Change::PutProcess { p, r } => put_process(s, p, r),
+        Change::CloneProcess { p, t } => clone(s, p, t),
+        Change::EndProcess { p } => terminate(s, p),
+        Change::UseObject { p, r, t, opens } => use_object(s, p, r, t, opens),
+        Change::CreateObject { p, r, o } => create_object(s, p, r, o),
+        Change::EnterObject { o } => add_object(s, o),
+        Change::CountRefusal => count(s),
     }
 }
 
@@ -515,10 +448,10 @@ fn enforce(s: &mut [u8], c: Call) -> Outcome
     if number != 0 {
         return Outcome::Refused { number };
     }
-    let k = decide::request_of(c.request);
+    let k = requests::action_of(c.request);
     let v = view_in(s, c);
-    let outcome = calls::outcome_later(k, v, c);
-    after_number(outcome.number(), s, v, c);
+    let outcome = questions::outcome_later(k, v, c);
+    make(effects::change_by(outcome.number(), v, c), s);
     outcome
 }
 

@@ -1,3 +1,4 @@
--- The run program's lines in a lent buffer.
+-- Definitions beside document 01's: the parts of a line, and blocks of lines.
 pub mod Texts
-pub mod Printed
+pub mod Blocks
+pub mod Laws

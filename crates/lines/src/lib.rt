@@ -2,18 +2,18 @@
 ghost use Prim.Native.Nat.{_+_, _*_, _/_, _≤_, _<_};
 ghost use mathlib.Core.Path.{_≡_};
 ghost use lib.ListN.{length};
-ghost use Rattle.state.specs.Answers.{code};
-ghost use Rattle.state.specs.Outcomes.{answersOf, numberOf};
+ghost use Rattle.answers.specs.Answers.{code};
+ghost use Rattle.answers.specs.Outcomes.{answersOf, numberOf};
 ghost use Rattle.text.specs.Stored.{Stored};
 ghost use Rattle.io.specs.Counts.{Counts};
 ghost use Rattle.rules.specs.Lines.{setupLine, shortLine};
 ghost use Rattle.in_place.specs.Layout.{facilityAt};
 ghost use Rattle.in_place.specs.Stores.{Becomes};
-ghost use Rattle.lines.specs.Printed.{blockText, facilityAfter, linesOf};
+ghost use Rattle.lines.specs.Blocks.{blockText, facilityAfter, linesOf};
 ghost use Rattle.lines.specs.Texts.{callText, levelPart, lineText, outcomeText};
+use answers::Outcome;
 use state::Call;
 use state::Facility;
-use state::Outcome;
 
 // A level, or a hyphen where the process does not run.
 fn put_level(out: &mut [u8], place: usize, running: u8, level: u8) -> usize
@@ -94,7 +94,7 @@ fn put_lines(start: Facility, first: u64, calls: &[u8], out: &mut [u8]) -> Print
         };
     }
     while 4 <= n - i {
-        let c = calls::call_at(calls, i);
+        let c = history::call_at(calls, i);
         i += 4;
         let here = index;
         index += 1;
@@ -126,7 +126,7 @@ fn put_lines_in(s: &mut [u8; in_place::SIZE], first: u64, calls: &[u8], out: &mu
         return 0;
     }
     while 4 <= n - i {
-        let c = calls::call_at(calls, i);
+        let c = history::call_at(calls, i);
         i += 4;
         let here = index;
         index += 1;
@@ -180,7 +180,7 @@ pub fn put_block_in(s: &mut [u8; in_place::SIZE], first: u64, calls: &[u8], out:
 }
 
 // `set-up`, number and index of a refused set-up.
-pub fn put_setup(out: &mut [u8], number: u8, index: u8) -> usize
+pub fn put_setup(out: &mut [u8], number: u8, index: u16) -> usize
     ensures { λ r. ⌜ Stored (now (out .entry)) 0 (setupLine number index) (now (out .exit)) r ⌝ }
     ensures { λ r. ⌜ Counts r (now (out .exit)) ⌝ }
 {

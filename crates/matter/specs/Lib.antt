@@ -1,5 +1,4 @@
--- The ledger of the account, and that it stands for the account of document 01.
-pub mod Held
-pub mod Rows
-pub mod Tied
-pub mod Whole
+-- Definitions beside document 01's: the account of matter as bits of words.
+pub mod LedgerSteps
+pub mod AfterCalls
+pub mod Laws

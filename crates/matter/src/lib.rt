@@ -2,16 +2,26 @@
 ghost use Prim.Native.Nat.{min};
 ghost use mathlib.Core.Path.{_≡_};
 ghost use lib.ListN.{getD};
-ghost use Rattle.matter.specs.Held.{assignedNothingOf, carriedOf, copiedOf, createdOf, enteredOf, heldBy, isMember, membersIn, mergedOf, noMembers};
-ghost use Rattle.matter.specs.Held.{objectGainsOf, onObjectOf, onlyMember, processGainsOf, withObject, withProcess, selves, startOf, stepOf};
+ghost use Rattle.matter.specs.LedgerSteps.{assignedNothingOf, carriedOf, copiedOf, createdOf, enteredOf, heldBy, isMember, membersIn, mergedOf};
+ghost use Rattle.matter.specs.LedgerSteps.{noMembers, objectGainsOf, onObjectOf, onlyMember, processGainsOf, withObject, withProcess, selves};
+ghost use Rattle.matter.specs.LedgerSteps.{startOf, stepOf};
+ghost use Rattle.opens.specs.Opens.{mostObjects};
 ghost use Rattle.rules.specs.Matter.{gives, takes};
-use decide::class_of;
-use decide::in_directory;
-use decide::request_of;
+use requests::action_of;
+use requests::class_of;
+use requests::in_directory;
+use rules::Action;
 use rules::Class;
-use rules::Request;
 use state::Call;
+use state::OBJECTS;
 use state::at;
+
+// Object numbers in a word, and the words of a row for each object and each process.
+const PER_WORD: u8 = 64;
+
+const OBJECT_WORDS: usize = 2 * OBJECTS;
+
+const PROCESS_WORDS: usize = 2 * state::PROCESSES;
 
 // A set of object numbers: number c is bit c of `low` below 64, and bit c - 64 of `high` from there to 127.
 pub struct Members {
@@ -22,9 +32,9 @@ pub struct Members {
 // Row x of `objects` is the words 2x and 2x + 1, the set that object x holds; so with `processes`. `next` is the next object number.
 pub struct Ledger {
     pub next: u8,
-    pub kinds: [u8; 128],
-    pub objects: [u64; 256],
-    pub processes: [u64; 64],
+    pub kinds: [u8; OBJECTS],
+    pub objects: [u64; OBJECT_WORDS],
+    pub processes: [u64; PROCESS_WORDS],
 }
 
 impl Members {
@@ -38,16 +48,16 @@ impl Members {
     fn only(c: u8) -> Members
         ensures { λ r. ⌜ r ≡ onlyMember c ⌝ }
     {
-        if c < 64 {
+        if c < PER_WORD {
             return Members {
                 low: 1 << c,
                 high: 0,
             };
         }
-        if c < 128 {
+        if c < opens::OBJECTS {
             return Members {
                 low: 0,
-                high: 1 << (c - 64),
+                high: 1 << (c - PER_WORD),
             };
         }
         Members::none()
@@ -65,11 +75,11 @@ impl Members {
     fn has(self, c: u8) -> bool
         ensures { λ r. ⌜ r ≡ isMember self c ⌝ }
     {
-        if c < 64 {
+        if c < PER_WORD {
             return (self.low >> c) % 2 == 1;
         }
-        if c < 128 {
-            return (self.high >> (c - 64)) % 2 == 1;
+        if c < opens::OBJECTS {
+            return (self.high >> (c - PER_WORD)) % 2 == 1;
         }
         false
     }
@@ -120,17 +130,21 @@ fn gives(request: u8, k: Class) -> bool
 
 // How many object numbers there are below `entered`.
 fn numbers(entered: u8) -> u8
-    ensures { λ r. ⌜ r ≡ min entered 128 ⌝ }
+    ensures { λ r. ⌜ r ≡ min entered mostObjects ⌝ }
 {
-    if entered < 128 { entered } else { 128 }
+    if entered < opens::OBJECTS {
+        entered
+    } else {
+        opens::OBJECTS
+    }
 }
 
 // The words of objects of which each below `entered` holds itself.
-fn selves(entered: u8) -> [u64; 256]
-    ensures { λ r. ⌜ r ≡ selves (min entered 128) ⌝ }
+fn selves(entered: u8) -> [u64; OBJECT_WORDS]
+    ensures { λ r. ⌜ r ≡ selves (min entered mostObjects) ⌝ }
 {
     let n = numbers(entered);
-    let mut words: [u64; 256] = [0; 256];
+    let mut words: [u64; OBJECT_WORDS] = [0; OBJECT_WORDS];
     let mut t: u8 = 0;
     while t < n {
         let s = Members::only(t);
@@ -146,7 +160,7 @@ fn selves(entered: u8) -> [u64; 256]
 // The ledger is handed in and back by value. A number that is none holds nothing and gains nothing.
 impl Ledger {
     // The account of a set-up: each object below `entered` holds itself.
-    pub fn start(entered: u8, kinds: [u8; 128]) -> Ledger
+    pub fn start(entered: u8, kinds: [u8; OBJECTS]) -> Ledger
         ensures { λ r. ⌜ r ≡ startOf entered kinds ⌝ }
     {
         let objects = selves(entered);
@@ -154,7 +168,7 @@ impl Ledger {
             next: entered,
             kinds,
             objects,
-            processes: [0; 64],
+            processes: [0; PROCESS_WORDS],
         }
     }
 
@@ -183,7 +197,7 @@ impl Ledger {
     {
         let low = 2 * (x as usize);
         let high = low + 1;
-        if x < 128 {
+        if x < opens::OBJECTS {
             self.objects[low] = s.low;
             self.objects[high] = s.high;
         }
@@ -195,7 +209,7 @@ impl Ledger {
     {
         let low = 2 * (p as usize);
         let high = low + 1;
-        if p < 32 {
+        if p < opens::PROCESSES {
             self.processes[low] = s.low;
             self.processes[high] = s.high;
         }
@@ -229,7 +243,7 @@ impl Ledger {
     fn copied(self, p: u8, t: u8) -> Ledger
         ensures { λ r. ⌜ r ≡ copiedOf self p t ⌝ }
     {
-        if 32 <= p {
+        if opens::PROCESSES <= p {
             return self;
         }
         let s = self.process_members(p);
@@ -242,7 +256,7 @@ impl Ledger {
     {
         let n = self.next;
         let i = n as usize;
-        if 128 <= i {
+        if OBJECTS <= i {
             return self;
         }
         let mut l = self.with_object(n, Members::only(n));
@@ -277,18 +291,18 @@ impl Ledger {
     }
 
     // An accepted call.
-    fn carried(self, k: Request, c: Call) -> Ledger
+    fn carried(self, k: Action, c: Call) -> Ledger
         ensures { λ r. ⌜ r ≡ carriedOf k self c ⌝ }
     {
         match k {
-            Request::Login => self.assigned_nothing(c.process),
-            Request::Clone => self.copied(c.process, c.target),
-            Request::SendSignal => self,
-            Request::SetLevel => self,
-            Request::Terminate => self,
-            Request::Create => self.created(c),
-            Request::OnObject => self.on_object(c),
-            Request::Unknown => self,
+            Action::Login => self.assigned_nothing(c.process),
+            Action::Clone => self.copied(c.process, c.target),
+            Action::SendSignal => self,
+            Action::SetLevel => self,
+            Action::Terminate => self,
+            Action::Create => self.created(c),
+            Action::OnObject => self.on_object(c),
+            Action::Unknown => self,
         }
     }
 
@@ -297,7 +311,7 @@ impl Ledger {
         ensures { λ r. ⌜ r ≡ stepOf self c accepted ⌝ }
     {
         if accepted {
-            return self.carried(request_of(c.request), c);
+            return self.carried(action_of(c.request), c);
         }
         self
     }

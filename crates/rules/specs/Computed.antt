@@ -1,24 +1,24 @@
 -- Calls, set-ups and what is read off them, for the examples and edges of document 01, and what is unfolded so that they compute.
-use Prim.Native.Nat.{ℕ, zero, suc, _+_}
+use Prim.Native.Nat.{ℕ, zero, suc}
 use mathlib.Core.List.{List, [], _∷_, _++_, map}
 use Rattle.rules.specs.Types.{Answer, Answers, Call, Facility}
-use Rattle.state.specs.Tests.{_and_, _or_, ask, at}
-use Rattle.state.specs.Outcomes.{denies, answersFrom, outcomeOf, numberOf, answersOf}
-use Rattle.state.specs.State.{processIn, objectIn, userIn, markPlace, opensOf, reading, writing, addModes}
-use Rattle.state.specs.State.{freshProcess, noProcess, blank}
-use Rattle.state.specs.State.{putProcess, putOpens, putUser, putObject, addUser, addObject, dropObject, putRefusals, counted}
-use Rattle.state.specs.Labels.{leq, same, join, meet, bottom, top, given}
-use Rattle.state.specs.Answers.{code, grant, passes}
-use Rattle.rules.specs.Requests.{requestOf, files, directories, channels, controlData, listOf, classAmong, classOf, openChange}
-use Rattle.rules.specs.Setup.{recordsOf, allowedLength, fits, room, switchesAllowed, userAllowed, objectAllowed, allowed}
-use Rattle.rules.specs.Setup.{recordNumber, enterRecord, enterAll, readSetup}
-use Rattle.rules.specs.Setup.{bytesOfAll, firstUsers, firstLive, setupRecords, setupBytes, writeSetup}
-use Rattle.rules.specs.Modules.{mayRead, mayWrite, maySet, macClass, macObject, macSignal, macRule, fcRule, simRule}
-use Rattle.rules.specs.Modules.{macAnswer, fcAnswer, simAnswer, answers, moveBy, setLevel, moved, levelled}
+use Rattle.labels.specs.Decisions.{_and_, _or_, ask, at}
+use Rattle.answers.specs.Outcomes.{denies, answersFrom, outcomeOf, numberOf, answersOf}
+use Rattle.state.specs.State.{processIn, objectIn, userIn, opensOf, freshProcess, noProcess, blank, putProcess, putOpens, putUser, putObject, addUser}
+use Rattle.state.specs.State.{addObject, dropObject, putRefusals, counted, openBy}
+use Rattle.opens.specs.Opens.{markPlace, reading, writing, addModes}
+use Rattle.labels.specs.Labels.{leq, same, join, meet, bottom, top, given}
+use Rattle.answers.specs.Answers.{code, grant, passes}
+use Rattle.rules.specs.Requests.{actionOf, files, directories, channels, controlData, listOf, classAmong, classOf, openChange}
+use Rattle.rules.specs.Kinds.{kindOf, countOf, fits, room, allowedBy, allowed, recordNumber}
+use Rattle.rules.specs.Setup.{recordsOf, allowedLength, enterRecord, enterAll, readSetup, bytesOfAll, listed, setupRecords, setupBytes, writeSetup}
+use Rattle.rules.specs.Modules.{mayRead, mayWrite, maySet, macClass, macObject, macSignal, macRule, fcRule, simRule, macAnswer, fcAnswer, simAnswer}
+use Rattle.rules.specs.Modules.{answers, moveBy, setLevel, moved, levelled}
 use Rattle.rules.specs.Questions.{inRange, isRunning, isFree, openFor, roomFor, numberBy}
-use Rattle.rules.specs.Effects.{openBy, effectFrom}
-use Rattle.rules.specs.Calls.{accepted, objectGiven, query, afterRefusal, after, run, outcomes, trustedLogin, trustedLogins}
-use Rattle.rules.specs.Matter.{start, processGains, objectGains, assign, enter, carry, carryBy, afterEntry, account, history}
+use Rattle.rules.specs.Effects.{effectFrom}
+use Rattle.rules.specs.Calls.{accepted, objectGiven, query, afterRefusal, after}
+use Rattle.rules.specs.Histories.{run, outcomes, trustedLogin, trustedLogins, history}
+use Rattle.rules.specs.Matter.{start, processGains, objectGains, assign, enter, carry, carryBy, afterEntry, account}
 use Rattle.rules.specs.Lines.{decimalIn, levelText, callLine, callsOf, callLines, setupLine, shortLine, printed}
 
 -- Whoever unfolds one of these unfolds the definitions of its section.
@@ -40,15 +40,15 @@ unfolding putProcess putOpens putUser putObject addUser addObject dropObject put
 changesComputed = 0
 
 unfoldable pub setupComputed : ℕ
-unfolding recordsOf allowedLength fits room switchesAllowed userAllowed objectAllowed allowed recordNumber enterRecord enterAll readSetup
+unfolding kindOf countOf fits room allowedBy allowed recordNumber recordsOf allowedLength enterRecord enterAll readSetup
 setupComputed = 0
 
 unfoldable pub writingComputed : ℕ
-unfolding bytesOfAll firstUsers firstLive setupRecords setupBytes writeSetup
+unfolding bytesOfAll listed setupRecords setupBytes writeSetup
 writingComputed = 0
 
 unfoldable pub requestsComputed : ℕ
-unfolding requestOf files directories channels controlData listOf classAmong classOf openChange
+unfolding actionOf files directories channels controlData listOf classAmong classOf openChange
 requestsComputed = 0
 
 unfoldable pub modulesComputed : ℕ

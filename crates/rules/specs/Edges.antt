@@ -3,7 +3,7 @@ use Prim.Native.Nat.{ℕ}
 use mathlib.Core.Path.{_≡_, refl}
 use mathlib.Core.List.{List, [], _∷_, _++_}
 use Rattle.rules.specs.Types.{Answer, NotCared, Granted, NotGranted, Undefined, Call}
-use Rattle.state.specs.Answers.{combine}
+use Rattle.answers.specs.Answers.{combine}
 use Rattle.rules.specs.Computed.{everything, combinedAnswers, call, switches, user, object}
 use Rattle.rules.specs.Setup.{fresh}
 

@@ -1,7 +1,6 @@
 -- Examples computed from the definitions, a module for each section of document 01: each rule on both sides of each of its conditions.
 pub mod SetupRecords
 pub mod State
-pub mod Opens
 pub mod Classes
 pub mod Questions
 pub mod Modules

@@ -1,11 +1,13 @@
 -- Document 01, section by section.
 pub mod Types
+pub mod Kinds
 pub mod Setup
 pub mod Requests
 pub mod Modules
 pub mod Questions
 pub mod Effects
 pub mod Calls
+pub mod Histories
 pub mod Matter
 pub mod Text
 pub mod Lines

@@ -1,14 +1,14 @@
 -- "The run program": what it prints, as bytes.
-use Rattle.state.specs.declared.SetupOutcome.the-variants.{Accepted, Refused}
+use Rattle.answers.specs.declared.SetupOutcome.the-variants.{Accepted, Refused}
 use Prim.Native.Nat.{ℕ, zero, suc, _+_, _/_, _%_}
 use mathlib.Core.Bool.{true, false, cond}
 use mathlib.Core.List.{List, [], _∷_, _++_}
 use lib.Dec.{ltb, eqb}
 use lib.ListN.{length}
 use Rattle.rules.specs.Types.{SetupOutcome, Call, Facility}
-use Rattle.state.specs.Outcomes.{numberOf, answersOf}
+use Rattle.answers.specs.Outcomes.{numberOf, answersOf}
 use Rattle.state.specs.State.{processOf, runs}
-use Rattle.state.specs.Answers.{code}
+use Rattle.answers.specs.Answers.{code}
 use Rattle.rules.specs.Calls.{query, after}
 use Rattle.rules.specs.Text.{ascii}
 use Rattle.rules.specs.Setup.{readSetup}

@@ -1,14 +1,14 @@
 -- "Matter": the account, worked out from the set-up and, of each call, the four bytes and whether its number is 0.
 use Prim.Native.Nat.{ℕ, _+_}
-use mathlib.Core.Bool.{Bool, false, not, cond}
+use mathlib.Core.Bool.{Bool, false, cond, not}
 use mathlib.Core.List.{List, [], _∷_}
-use lib.Dec.{ltb, eqb}
-use Rattle.rules.specs.Types.{Call, Facility}
-use Rattle.state.specs.Tests.{_and_, _or_}
+use lib.Dec.{eqb, ltb}
+use Rattle.labels.specs.Decisions.{_or_, _and_}
+use Rattle.rules.specs.Types.{Facility, Call}
 use Rattle.state.specs.State.{objectOf}
-use Rattle.rules.specs.Calls.{accepted, after}
-use Rattle.rules.specs.Requests.{Request, Login, Clone, SendSignal, SetLevel, Terminate, Create, OnObject, Unknown}
-use Rattle.rules.specs.Requests.{Class, Absent, Reads, Writes, Both, NoCondition, requestOf, classOf, inDirectory}
+use Rattle.rules.specs.Requests.{Class, Absent, Reads, Writes, Both, NoCondition, Action, Login, Clone, SendSignal, SetLevel, Terminate, Create}
+use Rattle.rules.specs.Requests.{OnObject, Unknown, classOf, inDirectory, actionOf}
+use Rattle.rules.specs.Histories.{Entry, history}
 use Rattle.rules.specs.Setup.{fresh}
 
 -- a set of object numbers
@@ -103,7 +103,7 @@ carry k a c =
     (cond (gives (c .request) k) (objectGains a (c .process) (c .target)) a)
 
 -- an accepted call
-unfoldable pub carryBy : Request → Account → Call → Account
+unfoldable pub carryBy : Action → Account → Call → Account
 carryBy Login a c = assign a (c .process) nothing
 carryBy Clone a c = assign a (c .target) (a .processes (c .process))
 carryBy SendSignal a c = a
@@ -114,23 +114,13 @@ carryBy Create a c =
 carryBy Unknown a c = a
 carryBy OnObject a c = carry (classOf (c .request) (a .kinds (c .target))) a c
 
--- of each call: the four bytes and whether its number is 0
-pub record Entry : Type 0 where
-  pub call : Call
-  pub accepted : Bool
-
 -- a refused call changes nothing
 unfoldable pub afterEntry : Account → Entry → Account
-afterEntry a x = cond (x .accepted) (carryBy (requestOf (x .call .request)) a (x .call)) a
+afterEntry a x = cond (x .accepted) (carryBy (actionOf (x .call .request)) a (x .call)) a
 
 unfoldable pub account : Account → List Entry → Account
 account a [] = a
 account a (x ∷ xs) = account (afterEntry a x) xs
-
--- what is taken of the calls of a list from f
-unfoldable pub history : Facility → List Call → List Entry
-history f [] = []
-history f (c ∷ cs) = record { call = c; accepted = accepted f c } ∷ history (after f c) cs
 
 -- the account after a list of calls from the fresh facility of a set-up
 abbrev pub accountAfter : List ℕ → List Call → Account

@@ -1,35 +1,41 @@
 -- "What the modules answer": MAC, FC and SIM on what a call looks at, and MAC's moves of the caller.
 pub use Rattle.rules.specs.declared.View.{View}
+pub use Rattle.rules.specs.declared.Target.{Target}
 use Prim.Native.Nat.{ℕ}
 use mathlib.Core.Bool.{Bool, not, cond}
 use lib.Dec.{eqb}
 use Rattle.rules.specs.Types.{Answer, NotCared, Granted, NotGranted, Undefined, Answers, Call, Process, User, Object, Facility}
-use Rattle.state.specs.Tests.{_and_, _or_, on}
-use Rattle.state.specs.Outcomes.{answersFrom}
-use Rattle.state.specs.State.{processOf, objectOf, userOf, isAutomatic, opensOf}
-use Rattle.state.specs.Labels.{Label, label, leq, same, join, meet, given}
-use Rattle.state.specs.Answers.{grant}
-use Rattle.rules.specs.Requests.{Request, Login, Clone, SendSignal, SetLevel, Terminate, Create, OnObject, Unknown, Class, Absent, Reads, Writes, Both, NoCondition, classOf, alters, inDirectory, needsObject}
+use Rattle.labels.specs.Decisions.{_and_, _or_, on}
+use Rattle.answers.specs.Outcomes.{answersFrom}
+use Rattle.state.specs.State.{switchesOf, processOf, objectOf, userOf, isAutomatic, opensOf, withLevels}
+use Rattle.labels.specs.Labels.{unset, Label, label, leq, same, join, meet, given}
+use Rattle.answers.specs.Answers.{grant}
+use Rattle.rules.specs.Requests.{Action, Login, Clone, SendSignal, SetLevel, Terminate, Create, OnObject, Unknown, Class, Absent, Reads, Writes}
+use Rattle.rules.specs.Requests.{Both, NoCondition, classOf, alters, inDirectory, needsObject}
+
+-- the target of process p: t as a process and as an object, and how p has it open
+abbrev pub targetOf : Facility → ℕ → ℕ → Target
+targetOf f p t = record { receiver = processOf f t; object = objectOf f t; opens = opensOf f p t }
 
 -- what a call looks at
 abbrev pub viewOf : Facility → Call → View
 viewOf f c =
     record {
-      mac = f .mac;
-      fc = f .fc;
-      sim = f .sim;
+      switches = switchesOf f;
       users = f .users;
       entered = f .entered;
       caller = processOf f (c .process);
       owner = userOf f ((processOf f (c .process)) .owner);
-      receiver = processOf f (c .target);
-      object = objectOf f (c .target);
-      opens = opensOf f (c .process) (c .target);
+      target = targetOf f (c .process) (c .target);
     }
 
 -- the class of a call by the kind of its object
 abbrev pub classIn : View → Call → Class
-classIn v c = classOf (c .request) (v .object .kind)
+classIn v c = classOf (c .request) (v .target .object .kind)
+
+-- the label that set-level asks for
+abbrev pub wanted : Call → Label
+wanted c = label (c .extra)
 
 -- MAC. l is the object's label, r the process, clr the clearance of its owner.
 -- R: granted if L ≤ current, or automatic and L ≤ write mark and L ≤ clr
@@ -63,21 +69,21 @@ unfoldable pub macSignal : Process → User → Process → Answer
 macSignal r u receiver = grant (on (u .trusted) or same (r .current) (receiver .current))
 
 -- N, login, clone, terminate, create of a channel or control data: granted. Any other outcome: not granted
-unfoldable pub macRule : Request → View → Call → Answer
+unfoldable pub macRule : Action → View → Call → Answer
 macRule Login v c = Granted
 macRule Clone v c = Granted
-macRule SendSignal v c = macSignal (v .caller) (v .owner) (v .receiver)
-macRule SetLevel v c = grant (maySet (label (c .extra)) (v .caller) (v .owner .clearance))
+macRule SendSignal v c = macSignal (v .caller) (v .owner) (v .target .receiver)
+macRule SetLevel v c = grant (maySet (wanted c) (v .caller) (v .owner .clearance))
 macRule Terminate v c = Granted
 macRule Create v c =
-    cond (inDirectory (c .extra)) (macObject (classIn v c) (v .object) (v .caller) (v .owner)) Granted
-macRule OnObject v c = macObject (classIn v c) (v .object) (v .caller) (v .owner)
+    cond (inDirectory (c .extra)) (macObject (classIn v c) (v .target .object) (v .caller) (v .owner)) Granted
+macRule OnObject v c = macObject (classIn v c) (v .target .object) (v .caller) (v .owner)
 macRule Unknown v c = NotGranted
 
 -- FC: unset category undefined; granted if the category is general or matches the role by number; else not granted
 unfoldable pub fcRule : Object → User → Answer
 fcRule o u =
-    cond (eqb (o .category) 255) Undefined (grant (eqb (o .category) 0 or eqb (o .category) (u .role)))
+    cond (eqb (o .category) unset) Undefined (grant (eqb (o .category) 0 or eqb (o .category) (u .role)))
 
 -- SIM: for class W or B, or write, on security information: granted to the security officer, else not granted
 unfoldable pub simRule : ℕ → Class → Object → User → Answer
@@ -85,62 +91,37 @@ simRule request k o u =
     cond ((alters k or eqb request 19) and eqb (o .datatype) 1) (grant (eqb (u .role) 1)) NotCared
 
 -- a module that is off does not care; FC and SIM care about object targets only
-unfoldable pub macAnswer : Request → View → Call → Answer
-macAnswer k v c = cond (on (v .mac)) (macRule k v c) NotCared
+unfoldable pub macAnswer : Action → View → Call → Answer
+macAnswer k v c = cond (on (v .switches .mac)) (macRule k v c) NotCared
 
-unfoldable pub fcAnswer : Request → View → Call → Answer
-fcAnswer k v c = cond (on (v .fc) and needsObject k (c .extra)) (fcRule (v .object) (v .owner)) NotCared
+unfoldable pub fcAnswer : Action → View → Call → Answer
+fcAnswer k v c = cond (on (v .switches .fc) and needsObject k (c .extra)) (fcRule (v .target .object) (v .owner)) NotCared
 
-unfoldable pub simAnswer : Request → View → Call → Answer
+unfoldable pub simAnswer : Action → View → Call → Answer
 simAnswer k v c =
-    cond (on (v .sim) and needsObject k (c .extra)) (simRule (c .request) (classIn v c) (v .object) (v .owner)) NotCared
+    cond (on (v .switches .sim) and needsObject k (c .extra)) (simRule (c .request) (classIn v c) (v .target .object) (v .owner)) NotCared
 
-unfoldable pub answers : Request → View → Call → Answers
+unfoldable pub answers : Action → View → Call → Answers
 answers k v c = answersFrom (macAnswer k v c) (fcAnswer k v c) (simAnswer k v c)
 
 -- MAC's move of a process by class, on an object with label l.
 -- R: current and read mark become at least L. W: current becomes L, write mark at most L. B: as W, and both marks become L
 unfoldable pub moveBy : Class → Label → Process → Process
 moveBy Absent l r = r
-moveBy Reads l r =
-    record {
-      running = r .running;
-      owner = r .owner;
-      current = join (r .current) l;
-      readmark = join (r .readmark) l;
-      writemark = r .writemark;
-      automatic = r .automatic;
-    }
-moveBy Writes l r =
-    record {
-      running = r .running;
-      owner = r .owner;
-      current = l;
-      readmark = r .readmark;
-      writemark = meet (r .writemark) l;
-      automatic = r .automatic;
-    }
-moveBy Both l r =
-    record { running = r .running; owner = r .owner; current = l; readmark = l; writemark = l; automatic = r .automatic }
+moveBy Reads l r = withLevels r (join (r .current) l) (join (r .readmark) l) (r .writemark) (r .automatic)
+moveBy Writes l r = withLevels r l (r .readmark) (meet (r .writemark) l) (r .automatic)
+moveBy Both l r = withLevels r l l l (r .automatic)
 moveBy NoCondition l r = r
 
 -- set-level: current becomes e, automatic goes off for good
 unfoldable pub setLevel : Label → Process → Process
-setLevel l r =
-    record {
-      running = r .running;
-      owner = r .owner;
-      current = l;
-      readmark = r .readmark;
-      writemark = r .writemark;
-      automatic = 0;
-    }
+setLevel l r = withLevels r l (r .readmark) (r .writemark) 0
 
 -- the caller after an accepted call on an object: with MAC off, or a trusted owner, marks and current level are untouched
 unfoldable pub moved : View → Call → Process
 moved v c =
-    cond (on (v .mac) and not (on (v .owner .trusted))) (moveBy (classIn v c) (v .object .label) (v .caller)) (v .caller)
+    cond (on (v .switches .mac) and not (on (v .owner .trusted))) (moveBy (classIn v c) (v .target .object .label) (v .caller)) (v .caller)
 
 -- the caller after an accepted set-level: with MAC off nothing changes
 unfoldable pub levelled : View → Call → Process
-levelled v c = cond (on (v .mac)) (setLevel (label (c .extra)) (v .caller)) (v .caller)
+levelled v c = cond (on (v .switches .mac)) (setLevel (wanted c) (v .caller)) (v .caller)

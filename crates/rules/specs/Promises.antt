@@ -1,5 +1,5 @@
 -- Demands 1 and 2 as statements over the definitions. Each is proved in the module of Proofs/ that its comment names.
-use Rattle.state.specs.declared.Outcome.the-variants.{Refused}
+use Rattle.answers.specs.declared.Outcome.the-variants.{Refused}
 use Prim.Native.Nat.{ℕ, zero, suc, _+_, _≤_, min}
 use mathlib.Core.Path.{_≡_}
 use mathlib.Core.Bool.{true, false, not, cond}
@@ -7,14 +7,16 @@ use mathlib.Core.List.{List, [], _∷_}
 use lib.Dec.{leb, ltb, eqb}
 use lib.ListN.{length}
 use Rattle.rules.specs.Types.{Outcome, Call, Facility}
-use Rattle.state.specs.Tests.{_and_, asked, on}
-use Rattle.state.specs.Outcomes.{denies, numberOf, objectNumberOf}
-use Rattle.state.specs.State.{mostObjects, mostRefusals, putRefusals, counted}
-use Rattle.rules.specs.Calls.{accepted, query, after, enforce, run, outcomes}
-use Rattle.rules.specs.Requests.{Request, lastRequest, requestOf, isAbsent, isNoCondition, isLogin, isCreate, needsObject}
+use Rattle.labels.specs.Decisions.{_and_, asked, on}
+use Rattle.answers.specs.Outcomes.{denies, numberOf, objectNumberOf}
+use Rattle.opens.specs.Opens.{mostObjects}
+use Rattle.state.specs.State.{mostRefusals, switchesOf, putRefusals, counted}
+use Rattle.rules.specs.Calls.{accepted, query, after, enforce}
+use Rattle.rules.specs.Histories.{run, outcomes}
+use Rattle.rules.specs.Requests.{Action, lastRequest, actionOf, isAbsent, isNoCondition, isLogin, isCreate, needsObject}
 use Rattle.rules.specs.Setup.{fresh, acceptedSetup, usersOf, liveObjects, setupBytes}
 use Rattle.rules.specs.Modules.{View, classIn}
-use Rattle.rules.specs.Questions.{inRange, isRunning, isFree, openFor, roomFor, numberBy, number}
+use Rattle.rules.specs.Questions.{runsOf, inRange, isRunning, isFree, openFor, roomFor, numberBy, number}
 
 -- Demand 1 (Proofs/Refusals): what a call that is not accepted leaves, and that query gives what enforce would.
 pub record Refusals : Type 0 where
@@ -44,7 +46,7 @@ CounterCounts =
 unfoldable pub numbersGiven : Facility → List Call → List ℕ
 numbersGiven f [] = []
 numbersGiven f (c ∷ cs) =
-    cond (accepted f c and isCreate (requestOf (c .request)))
+    cond (accepted f c and isCreate (actionOf (c .request)))
     (objectNumberOf (query f c) ∷ numbersGiven (after f c) cs) (numbersGiven (after f c) cs)
 
 -- k numbers from n on: n, n + 1, ..
@@ -53,14 +55,14 @@ upFrom n zero = []
 upFrom n (suc k) = n ∷ upFrom (n + 1) k
 
 -- questions 1 to 9 are answered with yes
-pub record PassedTo9 (k : Request) (v : View) (c : Call) : Type 0 where
+pub record PassedTo9 (k : Action) (v : View) (c : Call) : Type 0 where
   pub one : leb (c .request) lastRequest ≡ true
-  pub two : inRange k v c ≡ true
-  pub three : isRunning k v c ≡ true
-  pub four : isFree k v c ≡ true
+  pub two : inRange k c ≡ true
+  pub three : isRunning k (runsOf v) ≡ true
+  pub four : isFree k (runsOf v) ≡ true
   pub five : asked (isLogin k) (ltb (c .extra) (v .users)) ≡ true
   pub eight : asked (isCreate k) (leb (c .extra) 3) ≡ true
-  pub six : asked (needsObject k (c .extra)) (on (v .object .live)) ≡ true
+  pub six : asked (needsObject k (c .extra)) (on (v .target .object .live)) ≡ true
   pub seven : asked (needsObject k (c .extra)) (not (isAbsent (classIn v c))) ≡ true
   pub nine : asked (needsObject k (c .extra)) (asked (isNoCondition (classIn v c)) (openFor v c)) ≡ true
 
@@ -74,14 +76,12 @@ pub record ObjectNumbers : Type 0 where
   pub entering : (s : List ℕ) (cs : List Call)
       → run (fresh s) cs .entered ≡ fresh s .entered + length (numbersGiven (fresh s) cs)
   -- number 10 exactly when its question is answered with no, which is: create, and not fewer than 128 entered
-  pub ten : (k : Request) (v : View) (c : Call) → PassedTo9 k v c → eqb (numberBy k v c) 10 ≡ not (roomFor k v c)
-  pub full : (k : Request) (v : View) (c : Call) → roomFor k v c ≡ asked (isCreate k) (ltb (v .entered) mostObjects)
+  pub ten : (k : Action) (v : View) (c : Call) → PassedTo9 k v c → eqb (numberBy k v c) 10 ≡ not (roomFor k v c)
+  pub full : (k : Action) (v : View) (c : Call) → roomFor k v c ≡ asked (isCreate k) (ltb (v .entered) mostObjects)
 
 -- f and g have the same switches, users and live objects, in order
 pub record SameSetup (f g : Facility) : Type 0 where
-  pub mac : g .mac ≡ f .mac
-  pub fc : g .fc ≡ f .fc
-  pub sim : g .sim ≡ f .sim
+  pub switches : switchesOf g ≡ switchesOf f
   pub users : usersOf g ≡ usersOf f
   pub objects : liveObjects g ≡ liveObjects f
 

@@ -7,7 +7,13 @@ pub mod Moves
 pub mod Classes
 pub mod Regular
 pub mod Records
+pub mod Past
+pub mod Bytes
+pub mod Listed
 pub mod Fresh
+pub mod Accepted
+pub mod Sections
+pub mod Written
 pub mod Steps
 pub mod OnlyWhen
 pub mod Kept

@@ -1,23 +1,23 @@
 -- "Calls": the requests, and the class of a request by the kind of its object.
-pub use Rattle.rules.specs.declared.Request.{Request}
-pub use Rattle.rules.specs.declared.Request.the-variants.{Login, Clone, SendSignal, SetLevel, Terminate, Create, OnObject, Unknown}
+pub use Rattle.rules.specs.declared.Action.{Action}
+pub use Rattle.rules.specs.declared.Action.the-variants.{Login, Clone, SendSignal, SetLevel, Terminate, Create, OnObject, Unknown}
 pub use Rattle.rules.specs.declared.Class.{Class}
 pub use Rattle.rules.specs.declared.Class.the-variants.{Absent, Reads, Writes, Both, NoCondition}
-pub use Rattle.rules.specs.declared.OpenChange.{OpenChange}
-pub use Rattle.rules.specs.declared.OpenChange.the-variants.{Keep, Add, Close, CloseAll}
-use Prim.Native.Nat.{ℕ}
-use mathlib.Core.Bool.{Bool, true, false, not, cond}
+pub use Rattle.opens.specs.declared.OpenChange.{OpenChange}
+pub use Rattle.opens.specs.declared.OpenChange.the-variants.{Keep, Add, Close, CloseAll}
+use Prim.Native.Nat.{ℕ, _/_, _%_}
+use mathlib.Core.Bool.{Bool, not, cond}
 use mathlib.Core.List.{List, [], _∷_}
 use lib.Dec.{leb, eqb}
-use Rattle.state.specs.Tests.{_or_}
+use Rattle.labels.specs.Decisions.{_or_}
 
 -- the last request number
 abbrev pub lastRequest : ℕ
 lastRequest = 21
 
 -- what a request acts on: 2 clone, 4 create, 16 send-signal, 17 set-level, 18 terminate, 21 login; the others up to 21 act on an object
-unfoldable pub requestOf : ℕ → Request
-requestOf r =
+unfoldable pub actionOf : ℕ → Action
+actionOf r =
     cond (eqb r 2) Clone (cond (eqb r 4) Create (cond (eqb r 16) SendSignal (cond (eqb r 17) SetLevel
     (cond (eqb r 18) Terminate (cond (eqb r 21) Login (cond (leb r lastRequest) OnObject Unknown))))))
 
@@ -57,100 +57,65 @@ classAmong r (x ∷ xs) = cond (eqb (x .request) r) (x .class) (classAmong r xs)
 unfoldable pub classOf : ℕ → ℕ → Class
 classOf r kind = classAmong r (listOf kind)
 
+-- the code of a class: 1 is in it where the class reads, 2 where it writes
+abbrev pub classCode : Class → ℕ
+classCode Absent = 0
+classCode Reads = 1
+classCode Writes = 2
+classCode Both = 3
+classCode NoCondition = 4
+
 abbrev pub isAbsent : Class → Bool
-isAbsent Absent = true
-isAbsent Reads = false
-isAbsent Writes = false
-isAbsent Both = false
-isAbsent NoCondition = false
+isAbsent k = eqb (classCode k) 0
 
 abbrev pub isNoCondition : Class → Bool
-isNoCondition Absent = false
-isNoCondition Reads = false
-isNoCondition Writes = false
-isNoCondition Both = false
-isNoCondition NoCondition = true
+isNoCondition k = eqb (classCode k) 4
 
 -- class R or B
 abbrev pub observes : Class → Bool
-observes Absent = false
-observes Reads = true
-observes Writes = false
-observes Both = true
-observes NoCondition = false
+observes k = eqb (classCode k % 2) 1
 
 -- class W or B
 abbrev pub alters : Class → Bool
-alters Absent = false
-alters Reads = false
-alters Writes = true
-alters Both = true
-alters NoCondition = false
+alters k = eqb (classCode k / 2) 1
 
-abbrev pub isLogin : Request → Bool
-isLogin Login = true
-isLogin Clone = false
-isLogin SendSignal = false
-isLogin SetLevel = false
-isLogin Terminate = false
-isLogin Create = false
-isLogin OnObject = false
-isLogin Unknown = false
+-- the number of the request that acts so; of a request on an object, which many are, and of no request, a number that is no request
+abbrev pub actionCode : Action → ℕ
+actionCode Clone = 2
+actionCode Create = 4
+actionCode SendSignal = 16
+actionCode SetLevel = 17
+actionCode Terminate = 18
+actionCode Login = 21
+actionCode OnObject = 22
+actionCode Unknown = 23
 
-abbrev pub isClone : Request → Bool
-isClone Login = false
-isClone Clone = true
-isClone SendSignal = false
-isClone SetLevel = false
-isClone Terminate = false
-isClone Create = false
-isClone OnObject = false
-isClone Unknown = false
+abbrev pub isClone : Action → Bool
+isClone k = eqb (actionCode k) 2
 
-abbrev pub isSendSignal : Request → Bool
-isSendSignal Login = false
-isSendSignal Clone = false
-isSendSignal SendSignal = true
-isSendSignal SetLevel = false
-isSendSignal Terminate = false
-isSendSignal Create = false
-isSendSignal OnObject = false
-isSendSignal Unknown = false
+abbrev pub isCreate : Action → Bool
+isCreate k = eqb (actionCode k) 4
 
-abbrev pub isSetLevel : Request → Bool
-isSetLevel Login = false
-isSetLevel Clone = false
-isSetLevel SendSignal = false
-isSetLevel SetLevel = true
-isSetLevel Terminate = false
-isSetLevel Create = false
-isSetLevel OnObject = false
-isSetLevel Unknown = false
+abbrev pub isSendSignal : Action → Bool
+isSendSignal k = eqb (actionCode k) 16
 
-abbrev pub isCreate : Request → Bool
-isCreate Login = false
-isCreate Clone = false
-isCreate SendSignal = false
-isCreate SetLevel = false
-isCreate Terminate = false
-isCreate Create = true
-isCreate OnObject = false
-isCreate Unknown = false
+abbrev pub isSetLevel : Action → Bool
+isSetLevel k = eqb (actionCode k) 17
+
+abbrev pub isLogin : Action → Bool
+isLogin k = eqb (actionCode k) 21
+
+-- a request on an object, other than create
+abbrev pub isOnObject : Action → Bool
+isOnObject k = eqb (actionCode k) 22
 
 -- whether an object of kind e is created in a directory: a channel (2) and control data (3) are not
 abbrev pub inDirectory : ℕ → Bool
 inDirectory e = not (eqb e 2 or eqb e 3)
 
 -- an object target is needed by all but 2, 16, 17, 18, 21 and create with e 2 or 3
-abbrev pub needsObject : Request → ℕ → Bool
-needsObject Login e = false
-needsObject Clone e = false
-needsObject SendSignal e = false
-needsObject SetLevel e = false
-needsObject Terminate e = false
-needsObject Create e = inDirectory e
-needsObject OnObject e = true
-needsObject Unknown e = false
+abbrev pub needsObject : Action → ℕ → Bool
+needsObject k e = cond (isCreate k) (inDirectory e) (isOnObject k)
 
 -- what a request on an object does to the opens: 13 read-open, 14 read&write-open and 20 write-open add their modes, 3 close, 5 delete
 unfoldable pub openChange : ℕ → OpenChange

@@ -1,27 +1,24 @@
 -- "Set-up records": reading a set-up, and writing one out.
-pub use Rattle.rules.specs.declared.SetupRecord.{SetupRecord}
+pub use Rattle.rules.specs.Kinds.{SetupRecord, recordNumber}
 pub use Rattle.rules.specs.declared.Reading.{Reading}
-use Rattle.state.specs.declared.SetupOutcome.the-variants.{Accepted, Refused}
-use Rattle.state.specs.declared.WriteOutcome.the-variants.{Written, NoRoom}
-use Prim.Native.Nat.{ℕ, zero, suc, _+_, _/_, _%_}
+use Rattle.answers.specs.declared.SetupOutcome.the-variants.{Accepted, Refused}
+use Rattle.answers.specs.declared.WriteOutcome.the-variants.{Written, NoRoom}
+use Prim.Native.Nat.{ℕ, zero, suc, _/_, _%_}
 use mathlib.Core.Bool.{Bool, true, false, cond}
 use mathlib.Core.List.{List, [], _∷_, _++_, map}
 use lib.Dec.{leb, ltb, eqb}
 use lib.ListN.{length, drop}
-use Rattle.rules.specs.Types.{SetupOutcome, WriteOutcome, User, Object, Facility}
-use Rattle.state.specs.Tests.{_and_, _or_, ask, at, on}
-use Rattle.state.specs.State.{mostUsers, mostObjects, Users, Objects, usersIn, objectsIn, objectIn, userIn, addUser, addObject, blank}
-use Rattle.state.specs.Labels.{label}
+use Rattle.rules.specs.Types.{SetupOutcome, WriteOutcome, Switches, User, Object, Facility}
+use Rattle.labels.specs.Decisions.{_and_, at}
+use Rattle.state.specs.State.{objectOf, userOf, live, switchesOf, allOff, addUser, addObject, blank}
+use Rattle.labels.specs.Labels.{label}
 
--- A record is 8 bytes, no header. Byte 0 is the kind.
+-- A record is 8 bytes, no header. Byte 0 is the kind: 3 switches, 1 user, 2 object (Kinds).
 abbrev pub isSwitches : SetupRecord → Bool
 isSwitches r = eqb (r .kind) 3
 
 abbrev pub isUserRecord : SetupRecord → Bool
 isUserRecord r = eqb (r .kind) 1
-
-abbrev pub isObjectRecord : SetupRecord → Bool
-isObjectRecord r = eqb (r .kind) 2
 
 -- the records of the bytes s
 abbrev pub firstRecord : List ℕ → SetupRecord
@@ -50,49 +47,21 @@ unfoldable pub bytesOfAll : List SetupRecord → List ℕ
 bytesOfAll [] = []
 bytesOfAll (r ∷ rs) = bytesOf r ++ bytesOfAll rs
 
+-- a set-up of one switches record, 16 users and 128 objects
+abbrev pub mostBytes : ℕ
+mostBytes = 1160
+
 -- 14: is the length a positive multiple of 8, at most 1,160?
 unfoldable pub allowedLength : ℕ → Bool
-allowedLength n = eqb (n % 8) 0 and ltb 0 n and leb n 1160
+allowedLength n = eqb (n % 8) 0 and ltb 0 n and leb n mostBytes
 
 abbrev pub sized : List ℕ → Bool
 sized s = allowedLength (length s)
 
--- 15: does the kind fit the place (3 first and only there, no 1 after a 2)? i is the index, `entered` counts the objects before it
-unfoldable pub fits : ℕ → ℕ → SetupRecord → Bool
-fits entered i r =
-    cond (eqb i 0) (isSwitches r) ((isUserRecord r and eqb entered 0) or isObjectRecord r)
+-- the switches, the user and the object that a record enters
+abbrev pub switchesEntered : SetupRecord → Switches
+switchesEntered r = record { mac = r .one; fc = r .two; sim = r .three }
 
--- 16: are fewer than 16 users, or 128 objects, entered before it?
-unfoldable pub room : ℕ → ℕ → SetupRecord → Bool
-room users entered r =
-    cond (isUserRecord r) (ltb users mostUsers) (cond (isObjectRecord r) (ltb entered mostObjects) true)
-
--- 17: is every byte allowed?
-unfoldable pub switchesAllowed : SetupRecord → Bool
-switchesAllowed r =
-    leb (r .one) 1 and leb (r .two) 1 and leb (r .three) 1
-    and eqb (r .four) 0 and eqb (r .five) 0 and eqb (r .six) 0 and eqb (r .seven) 0
-
--- clearance 0..15, role 0..2, trusted 0 or 1
-unfoldable pub userAllowed : SetupRecord → Bool
-userAllowed r =
-    leb (r .one) 15 and leb (r .two) 2 and leb (r .three) 1
-    and eqb (r .four) 0 and eqb (r .five) 0 and eqb (r .six) 0 and eqb (r .seven) 0
-
--- kind 0..3, level 0..15 or unset, category 0..2 or unset, data type 0 or 1
-unfoldable pub objectAllowed : SetupRecord → Bool
-objectAllowed r =
-    leb (r .one) 3 and (leb (r .two) 15 or eqb (r .two) 255) and (leb (r .three) 2 or eqb (r .three) 255) and leb (r .four) 1
-    and eqb (r .five) 0 and eqb (r .six) 0 and eqb (r .seven) 0
-
-unfoldable pub allowed : SetupRecord → Bool
-allowed r = cond (isSwitches r) (switchesAllowed r) (cond (isUserRecord r) (userAllowed r) (objectAllowed r))
-
--- the questions 15 to 17 of one record, after so many users and objects
-unfoldable pub recordNumber : ℕ → ℕ → ℕ → SetupRecord → ℕ
-recordNumber users entered i r = ask (fits entered i r) 15 (ask (room users entered r) 16 (ask (allowed r) 17 0))
-
--- the user and the object that a record enters
 abbrev pub userEntered : SetupRecord → User
 userEntered r = record { clearance = label (r .one); role = r .two; trusted = r .three }
 
@@ -102,24 +71,28 @@ objectEntered r = record { live = 1; kind = r .one; label = label (r .two); cate
 -- the facility with one record more
 unfoldable pub enterRecord : Facility → SetupRecord → Facility
 enterRecord f r =
-    cond (isSwitches r) (blank (r .one) (r .two) (r .three))
+    cond (isSwitches r) (blank (switchesEntered r))
     (cond (isUserRecord r) (addUser f (userEntered r)) (addObject f (objectEntered r)))
 
 -- a refused set-up gives the fresh facility of one switches record with all off
 abbrev pub refusedSetup : ℕ → ℕ → Reading
-refusedSetup n i = record { outcome = Refused n i; facility = blank 0 0 0 }
+refusedSetup n i = record { outcome = Refused n i; facility = blank allOff }
 
--- the records from index i on, each asked in turn
-unfoldable pub enterAll : ℕ → Facility → List SetupRecord → Reading
-enterAll i f [] = record { outcome = Accepted; facility = f }
-enterAll i f (r ∷ rs) =
-    cond (eqb (recordNumber (f .users) (f .entered) i r) 0)
-    (enterAll (i + 1) (enterRecord f r) rs)
-    (refusedSetup (recordNumber (f .users) (f .entered) i r) i)
+-- the records after those that are past, each asked in turn; the index of a record is how many are past
+unfoldable pub enterAll : List SetupRecord → Facility → List SetupRecord → Reading
+enterAll past f [] = record { outcome = Accepted; facility = f }
+enterAll past f (r ∷ rs) =
+    cond (eqb (recordNumber past r) 0)
+    (enterAll (r ∷ past) (enterRecord f r) rs)
+    (refusedSetup (recordNumber past r) (length past))
+
+-- the records of a set-up of whole records
+abbrev pub recordsIn : List ℕ → List SetupRecord
+recordsIn s = recordsOf (length s / 8) s
 
 unfoldable pub readSetup : List ℕ → Reading
 readSetup s =
-    cond (sized s) (enterAll 0 (blank 0 0 0) (recordsOf (length s / 8) s)) (refusedSetup 14 0)
+    cond (sized s) (enterAll [] (blank allOff) (recordsIn s)) (refusedSetup 14 0)
 
 -- the fresh facility of a set-up
 abbrev pub fresh : List ℕ → Facility
@@ -133,9 +106,9 @@ abbrev pub acceptedSetup : List ℕ → Bool
 acceptedSetup s = isAccepted ((readSetup s) .outcome)
 
 -- Writing out: exactly switches, users, live objects in order.
-abbrev pub switchesRecord : Facility → SetupRecord
-switchesRecord f =
-    record { kind = 3; one = f .mac; two = f .fc; three = f .sim; four = 0; five = 0; six = 0; seven = 0 }
+abbrev pub switchesRecord : Switches → SetupRecord
+switchesRecord s =
+    record { kind = 3; one = s .mac; two = s .fc; three = s .sim; four = 0; five = 0; six = 0; seven = 0 }
 
 abbrev pub userRecord : User → SetupRecord
 userRecord u =
@@ -163,23 +136,37 @@ objectRecord o =
       seven = 0;
     }
 
--- the first n users, and the live ones of the first n objects, in order
-unfoldable pub firstUsers : ℕ → Users → List User
-firstUsers zero x = []
-firstUsers (suc n) x = firstUsers n x ++ (userIn x n ∷ [])
+-- the items of the numbers below n that a test admits, in rising order
+unfoldable pub listed : {A : Type 0} → ℕ → (ℕ → Bool) → (ℕ → A) → List A
+listed zero test item = []
+listed (suc n) test item = listed n test item ++ cond (test n) (item n ∷ []) []
 
-unfoldable pub firstLive : ℕ → Objects → List Object
-firstLive zero x = []
-firstLive (suc n) x = firstLive n x ++ cond (on ((objectIn x n) .live)) (objectIn x n ∷ []) []
+abbrev pub every : ℕ → Bool
+every n = true
 
 abbrev pub usersOf : Facility → List User
-usersOf f = firstUsers (f .users) (usersIn f)
+usersOf f = listed (f .users) every (userOf f)
 
 abbrev pub liveObjects : Facility → List Object
-liveObjects f = firstLive (f .entered) (objectsIn f)
+liveObjects f = listed (f .entered) (live f) (objectOf f)
+
+-- the sections, each the records of one kind, in the order of the table
+abbrev pub usersSection : Facility → List SetupRecord
+usersSection f = map userRecord (usersOf f)
+
+abbrev pub objectsSection : Facility → List SetupRecord
+objectsSection f = map objectRecord (liveObjects f)
+
+abbrev pub sections : List (Facility → List SetupRecord)
+sections = usersSection ∷ objectsSection ∷ []
+
+-- sections one after the other
+abbrev pub together : List (Facility → List SetupRecord) → Facility → List SetupRecord
+together [] f = []
+together (s ∷ ss) f = s f ++ together ss f
 
 unfoldable pub setupRecords : Facility → List SetupRecord
-setupRecords f = switchesRecord f ∷ (map userRecord (usersOf f) ++ map objectRecord (liveObjects f))
+setupRecords f = switchesRecord (switchesOf f) ∷ together sections f
 
 unfoldable pub setupBytes : Facility → List ℕ
 setupBytes f = bytesOfAll (setupRecords f)

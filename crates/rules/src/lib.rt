@@ -1,13 +1,14 @@
-// The types of the rules: what a request acts on, its class, what it does to the opens, what a call looks at, and what reading and enforcing give.
+// The types of the rules: what a request acts on, its class, what a call looks at, kinds of set-up records, and what reading and enforcing give.
+use answers::Outcome;
+use answers::SetupOutcome;
 use state::Facility;
 use state::Object;
-use state::Outcome;
 use state::Process;
-use state::SetupOutcome;
+use state::Switches;
 use state::User;
 
 // What a request acts on. All requests that are not named here act on an object; a number above 21 is no request.
-pub enum Request {
+pub enum Action {
     Login,
     Clone,
     SendSignal,
@@ -27,29 +28,54 @@ pub enum Class {
     NoCondition,
 }
 
-// What a request on an object does to the opens.
-pub enum OpenChange {
-    Keep,
-    // The marks to add: 1 reading, 2 writing, 3 both.
-    Add(u8),
-    // Both marks of the caller on the object go.
-    Close,
-    // All marks on the object go.
-    CloseAll,
+// What questions 1 to 5 look at: the number of users, and whether the caller and the receiver run.
+pub struct Runs {
+    pub users: u8,
+    pub caller: u8,
+    pub receiver: u8,
 }
 
-// What a call looks at: the switches, the counts, the caller and its owner, and the target as a process and as an object.
+// What a call's target is: as a process and as an object, and how the caller has it open.
+pub struct Target {
+    pub receiver: Process,
+    pub object: Object,
+    pub opens: u8,
+}
+
+// What a call looks at: the switches, the counts, the caller and its owner, and the target.
 pub struct View {
-    pub mac: u8,
-    pub fc: u8,
-    pub sim: u8,
+    pub switches: Switches,
     pub users: u8,
     pub entered: u8,
     pub caller: Process,
     pub owner: User,
-    pub receiver: Process,
-    pub object: Object,
-    pub opens: u8,
+    pub target: Target,
+}
+
+// What a byte of a set-up record may be: 0 alone; 0 up to a number; or that, or 255, which is unset.
+pub enum Byte {
+    Zero,
+    Upto(u8),
+    OrUnset(u8),
+}
+
+// What is asked of a record's bytes together, beside what each may be.
+pub enum Also {
+    Nothing,
+}
+
+// A kind of set-up records: its place in the order, how many there may be, and what bytes 1 to 7 may be.
+pub struct Kind {
+    pub place: u8,
+    pub most: u16,
+    pub one: Byte,
+    pub two: Byte,
+    pub three: Byte,
+    pub four: Byte,
+    pub five: Byte,
+    pub six: Byte,
+    pub seven: Byte,
+    pub also: Also,
 }
 
 // A set-up record: eight bytes.

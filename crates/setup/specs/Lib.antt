@@ -1,4 +1,4 @@
--- Laws of the loops that read and write a set-up.
-pub mod Scanned
-pub mod Stored
-pub mod Trips
+-- Definitions beside document 01's: what the reader keeps, and records stored into a lent buffer.
+pub mod Progress
+pub mod Writing
+pub mod Laws

@@ -1,25 +1,30 @@
 // Set-ups: reading one from bytes, and writing one out into a lent buffer.
-ghost use Prim.Native.Nat.{_+_, _*_, _≤_};
-ghost use mathlib.Core.Bool.{cond};
+ghost use Prim.Native.Nat.{_*_, _<_, _≤_};
+ghost use mathlib.Core.List.{[], _∷_};
 ghost use mathlib.Core.Path.{_≡_};
-ghost use lib.ListN.{drop, length};
-ghost use lib.Seq.{sets};
-ghost use Rattle.rules.specs.Setup.{allowed, allowedLength, bytesOf, enterAll, enterRecord, firstRecord, fits, objectAllowed, objectEntered};
-ghost use Rattle.rules.specs.Setup.{objectRecord, readSetup, recordNumber, recordsOf, refusedSetup, room, switchesAllowed, userAllowed};
-ghost use Rattle.rules.specs.Setup.{userEntered, userRecord, writeSetup};
-ghost use Rattle.setup.specs.Stored.{liveBytes, liveCount, objectBytes, userBytes};
-ghost use Rattle.state.specs.State.{blank, objectsFrom, usersFrom};
+ghost use lib.ListN.{drop};
+ghost use Rattle.rules.specs.Kinds.{allowedBy, alsoAllowed, byteAllowed, kindOf, noKind, objectsKind, switchesKind, usersKind};
+ghost use Rattle.rules.specs.Setup.{allowedLength, enterAll, enterRecord, firstRecord, objectEntered, objectRecord, readSetup, recordsOf, refusedSetup};
+ghost use Rattle.rules.specs.Setup.{setupRecords, switchesEntered, switchesRecord, userEntered, userRecord, writeSetup};
+ghost use Rattle.setup.specs.Progress.{countAfter, fitsAfter, numberAfter, progressAfter};
+ghost use Rattle.setup.specs.Writing.{liveRecord, objectRecords, Stored, userRecords};
+ghost use Rattle.state.specs.State.{allOff, blank, objectsFrom, usersFrom};
+ghost use Rattle.labels.specs.Decisions.{ask};
+use answers::SetupOutcome;
+use answers::WriteOutcome;
+use labels::Label;
+use rules::Also;
+use rules::Byte;
+use rules::Kind;
 use rules::Reading;
 use rules::SetupRecord;
 use state::Facility;
-use state::Label;
 use state::Object;
-use state::SetupOutcome;
+use state::Switches;
 use state::User;
-use state::WriteOutcome;
 
 // Record i of the bytes; 0 past their end.
-fn record_at(s: &[u8], i: u8) -> SetupRecord
+fn record_at(s: &[u8], i: u16) -> SetupRecord
     ensures { λ r. ⌜ r ≡ firstRecord (drop (i * 8) (now (s .entry))) ⌝ }
 {
     let at = (i as usize) * 8;
@@ -35,89 +40,202 @@ fn record_at(s: &[u8], i: u8) -> SetupRecord
     }
 }
 
+// The most bytes of a set-up.
+const MOST_BYTES: usize = 1160;
+
 // 14: is the length a positive multiple of 8, at most 1,160?
 fn allowed_length(n: usize) -> bool
     ensures { λ r. ⌜ r ≡ allowedLength n ⌝ }
 {
-    (n % 8 == 0) & ((0 < n) & (n <= 1160))
+    (n % 8 == 0) & ((0 < n) & (n <= MOST_BYTES))
 }
 
-// 15: does the kind fit the place?
-fn fits(entered: u8, i: u8, r: SetupRecord) -> bool
-    ensures { λ x. ⌜ x ≡ fits entered i r ⌝ }
+// The table of kinds: 3 switches, 1 user, 2 object, and none.
+fn switches_kind() -> Kind
+    ensures { λ x. ⌜ x ≡ switchesKind ⌝ }
 {
-    if i == 0 {
-        return r.kind == 3;
+    Kind {
+        place: 1,
+        most: 1,
+        one: Byte::Upto(1),
+        two: Byte::Upto(1),
+        three: Byte::Upto(1),
+        four: Byte::Zero,
+        five: Byte::Zero,
+        six: Byte::Zero,
+        seven: Byte::Zero,
+        also: Also::Nothing,
     }
-    ((r.kind == 1) & (entered == 0)) | (r.kind == 2)
 }
 
-// 16: are fewer than 16 users, or 128 objects, entered before it?
-fn room(users: u8, entered: u8, r: SetupRecord) -> bool
-    ensures { λ x. ⌜ x ≡ room users entered r ⌝ }
+fn users_kind() -> Kind
+    ensures { λ x. ⌜ x ≡ usersKind ⌝ }
 {
-    if r.kind == 1 {
-        return users < 16;
+    Kind {
+        place: 2,
+        most: state::USERS as u16,
+        one: Byte::Upto(15),
+        two: Byte::Upto(2),
+        three: Byte::Upto(1),
+        four: Byte::Zero,
+        five: Byte::Zero,
+        six: Byte::Zero,
+        seven: Byte::Zero,
+        also: Also::Nothing,
     }
-    if r.kind == 2 {
-        return entered < 128;
-    }
-    true
 }
 
-// 17: is every byte allowed? By kind.
-fn switches_allowed(r: SetupRecord) -> bool
-    ensures { λ x. ⌜ x ≡ switchesAllowed r ⌝ }
+fn objects_kind() -> Kind
+    ensures { λ x. ⌜ x ≡ objectsKind ⌝ }
 {
-    let rest = (r.four == 0) & ((r.five == 0) & ((r.six == 0) & (r.seven == 0)));
-    (r.one <= 1) & ((r.two <= 1) & ((r.three <= 1) & rest))
+    Kind {
+        place: 3,
+        most: opens::OBJECTS as u16,
+        one: Byte::Upto(3),
+        two: Byte::OrUnset(15),
+        three: Byte::OrUnset(2),
+        four: Byte::Upto(1),
+        five: Byte::Zero,
+        six: Byte::Zero,
+        seven: Byte::Zero,
+        also: Also::Nothing,
+    }
 }
 
-fn user_allowed(r: SetupRecord) -> bool
-    ensures { λ x. ⌜ x ≡ userAllowed r ⌝ }
+fn no_kind() -> Kind
+    ensures { λ x. ⌜ x ≡ noKind ⌝ }
 {
-    let rest = (r.four == 0) & ((r.five == 0) & ((r.six == 0) & (r.seven == 0)));
-    (r.one <= 15) & ((r.two <= 2) & ((r.three <= 1) & rest))
+    Kind {
+        place: 0,
+        most: 0,
+        one: Byte::Zero,
+        two: Byte::Zero,
+        three: Byte::Zero,
+        four: Byte::Zero,
+        five: Byte::Zero,
+        six: Byte::Zero,
+        seven: Byte::Zero,
+        also: Also::Nothing,
+    }
 }
 
-fn object_allowed(r: SetupRecord) -> bool
-    ensures { λ x. ⌜ x ≡ objectAllowed r ⌝ }
+fn kind_of(k: u8) -> Kind
+    ensures { λ x. ⌜ x ≡ kindOf k ⌝ }
 {
-    let level = (r.two <= 15) | (r.two == 255);
-    let category = (r.three <= 2) | (r.three == 255);
-    let rest = (r.four <= 1) & ((r.five == 0) & ((r.six == 0) & (r.seven == 0)));
-    (r.one <= 3) & (level & (category & rest))
+    match k {
+        3 => switches_kind(),
+        1 => users_kind(),
+        2 => objects_kind(),
+        _ => no_kind(),
+    }
 }
 
-fn allowed(r: SetupRecord) -> bool
-    ensures { λ x. ⌜ x ≡ allowed r ⌝ }
-{
-    if r.kind == 3 {
-        return switches_allowed(r);
-    }
-    if r.kind == 1 {
-        return user_allowed(r);
-    }
-    object_allowed(r)
+// What the reader keeps of the records before a record: the kind of the last one, 0 where there is none, and how many of that kind there are.
+struct Progress {
+    kind: u8,
+    count: u16,
 }
 
-// The questions 15 to 17 of one record.
-fn record_number(users: u8, entered: u8, i: u8, r: SetupRecord) -> u8
-    ensures { λ x. ⌜ x ≡ recordNumber users entered i r ⌝ }
+// 15: does the place of a record's kind fit?
+fn fits(before: Progress, place: u8) -> bool
+    ensures { λ x. ⌜ x ≡ fitsAfter before place ⌝ }
 {
-    if !fits(entered, i, r) {
-        return 15;
+    if before.kind == 0 {
+        return place == 1;
     }
-    if !room(users, entered, r) {
-        return 16;
-    }
-    if !allowed(r) {
-        return 17;
+    let last = kind_of(before.kind);
+    (2 <= place) & (last.place <= place)
+}
+
+// How many of a kind that fits are before it: none where the last one is of another.
+fn count_of(before: Progress, kind: u8) -> u16
+    ensures { λ x. ⌜ x ≡ countAfter before kind ⌝ }
+{
+    if before.kind == kind {
+        return before.count;
     }
     0
 }
 
-// The user and the object that a record enters.
+// 17: is every byte allowed? Each by itself, and all together.
+fn byte_allowed(test: Byte, b: u8) -> bool
+    ensures { λ x. ⌜ x ≡ byteAllowed test b ⌝ }
+{
+    match test {
+        Byte::Zero => b == 0,
+        Byte::Upto(n) => b <= n,
+        Byte::OrUnset(n) => (b <= n) | (b == labels::UNSET),
+    }
+}
+
+fn also_allowed(also: Also, r: SetupRecord) -> bool
+    ensures { λ x. ⌜ x ≡ alsoAllowed also r ⌝ }
+{
+    match also {
+        Also::Nothing => true,
+    }
+}
+
+fn allowed_by(d: Kind, r: SetupRecord) -> bool
+    ensures { λ x. ⌜ x ≡ allowedBy d r ⌝ }
+{
+    let one = d.one;
+    let two = d.two;
+    let three = d.three;
+    let four = d.four;
+    let five = d.five;
+    let six = d.six;
+    let seven = d.seven;
+    let also = d.also;
+    byte_allowed(one, r.one)
+        & (byte_allowed(two, r.two)
+            & (byte_allowed(three, r.three)
+                & (byte_allowed(four, r.four)
+                    & (byte_allowed(five, r.five)
+                        & (byte_allowed(six, r.six)
+                            & (byte_allowed(seven, r.seven) & also_allowed(also, r)))))))
+}
+
+// One of the ordered questions: yes goes on to the later number.
+fn or_number(yes: bool, number: u8, later: u8) -> u8
+    ensures { λ x. ⌜ x ≡ ask yes number later ⌝ }
+{
+    if yes { later } else { number }
+}
+
+// The questions 15 to 17 of one record.
+fn record_number(before: Progress, r: SetupRecord) -> u8
+    ensures { λ x. ⌜ x ≡ numberAfter before r ⌝ }
+{
+    let d = kind_of(r.kind);
+    let fits = fits(before, d.place);
+    let room = count_of(before, r.kind) < d.most;
+    let allowed = allowed_by(d, r);
+    or_number(fits, 15, or_number(room, 16, or_number(allowed, 17, 0)))
+}
+
+// What is kept with one record more.
+fn progress_after(before: Progress, kind: u8) -> Progress
+    requires { ⌜ before .count < 65535 ⌝ }
+    ensures { λ x. ⌜ x ≡ progressAfter before kind ⌝ }
+{
+    Progress {
+        kind,
+        count: count_of(before, kind) + 1,
+    }
+}
+
+// The switches, the user and the object that a record enters.
+fn switches_entered(r: SetupRecord) -> Switches
+    ensures { λ x. ⌜ x ≡ switchesEntered r ⌝ }
+{
+    Switches {
+        mac: r.one,
+        fc: r.two,
+        sim: r.three,
+    }
+}
+
 fn user_entered(r: SetupRecord) -> User
     ensures { λ x. ⌜ x ≡ userEntered r ⌝ }
 {
@@ -145,7 +263,7 @@ fn enter_record(f: Facility, r: SetupRecord) -> Facility
     ensures { λ x. ⌜ x ≡ enterRecord f r ⌝ }
 {
     if r.kind == 3 {
-        return Facility::blank(r.one, r.two, r.three);
+        return Facility::blank(switches_entered(r));
     }
     if r.kind == 1 {
         return f.with_user(user_entered(r));
@@ -153,30 +271,31 @@ fn enter_record(f: Facility, r: SetupRecord) -> Facility
     f.with_object(object_entered(r))
 }
 
-fn refused(number: u8, index: u8) -> Reading
+fn refused(number: u8, index: u16) -> Reading
     ensures { λ x. ⌜ x ≡ refusedSetup number index ⌝ }
 {
-    let facility = Facility::blank(0, 0, 0);
+    let facility = Facility::blank(Switches::off());
     Reading {
         outcome: SetupOutcome::Refused { number, index },
         facility,
     }
 }
 
-// The records of a set-up of an allowed length, each asked in turn.
-fn read_records(s: &[u8], count: u8) -> Reading
-    requires { ⌜ count ≤ 145 ⌝ }
-    ensures { λ x. ⌜ x ≡ enterAll 0 (blank 0 0 0) (recordsOf count (now (s .entry))) ⌝ }
+// The first records of a set-up, each asked in turn.
+fn read_records(s: &[u8], count: u16) -> Reading
+    ensures { λ x. ⌜ x ≡ enterAll [] (blank allOff) (recordsOf count (now (s .entry))) ⌝ }
 {
-    let mut f = Facility::blank(0, 0, 0);
-    let mut k: u8 = 0;
+    let mut f = Facility::blank(Switches::off());
+    let mut before = Progress { kind: 0, count: 0 };
+    let mut k: u16 = 0;
     while k < count {
         let r = record_at(s, k);
-        let number = record_number(f.users, f.entered, k, r);
+        let number = record_number(before, r);
         if number != 0 {
             return refused(number, k);
         }
         f = enter_record(f, r);
+        before = progress_after(before, r.kind);
         k += 1;
     }
     Reading {
@@ -193,10 +312,25 @@ pub fn read_setup(s: &[u8]) -> Reading
     if !allowed_length(n) {
         return refused(14, 0);
     }
-    read_records(s, ((n / 8) % 256) as u8)
+    read_records(s, ((n / 8) % 65536) as u16)
 }
 
-// The records that are written out for a user and an object.
+// The records that are written out for the switches, a user and an object.
+fn switches_record(s: Switches) -> SetupRecord
+    ensures { λ x. ⌜ x ≡ switchesRecord s ⌝ }
+{
+    SetupRecord {
+        kind: 3,
+        one: s.mac,
+        two: s.fc,
+        three: s.sim,
+        four: 0,
+        five: 0,
+        six: 0,
+        seven: 0,
+    }
+}
+
 fn user_record(u: User) -> SetupRecord
     ensures { λ x. ⌜ x ≡ userRecord u ⌝ }
 {
@@ -227,11 +361,15 @@ fn object_record(o: Object) -> SetupRecord
     }
 }
 
-// A record's bytes are stored at a place of a buffer.
-fn put_record(out: &mut [u8], place: usize, r: SetupRecord)
-    requires { ⌜ place + 8 ≤ length (now out) ⌝ }
-    ensures { λ x. ⌜ now (out .exit) ≡ sets (now (out .entry)) place (bytesOf r) ⌝ }
+// A record is stored at a place where it fits whole. Answers the place behind it, where it fits or not.
+fn put_record(out: &mut [u8], place: usize, r: SetupRecord) -> usize
+    requires { ⌜ place ≤ 131072 ⌝ }
+    ensures { λ x. ⌜ Stored (now (out .entry)) place (r ∷ []) (now (out .exit)) x ⌝ }
 {
+    let next = place + 8;
+    if out.len() < next {
+        return next;
+    }
     out[place] = r.kind;
     out[place + 1] = r.one;
     out[place + 2] = r.two;
@@ -240,38 +378,46 @@ fn put_record(out: &mut [u8], place: usize, r: SetupRecord)
     out[place + 5] = r.five;
     out[place + 6] = r.six;
     out[place + 7] = r.seven;
+    next
 }
 
-// The first n users are stored from byte 8 on.
-fn put_users<'a>(out: &mut [u8], clearances: &'a [u8], roles: &'a [u8], trusts: &'a [u8], n: u8)
-    requires { ⌜ 8 + n * 8 ≤ length (now out) ⌝ }
-    ensures { λ x. ⌜ now (out .exit)
-        ≡ sets (now (out .entry)) 8 (userBytes n (usersFrom (now (clearances .entry)) (now (roles .entry)) (now (trusts .entry)))) ⌝ }
+// The section of users: the first n.
+fn put_users<'a>(
+    out: &mut [u8],
+    start: usize,
+    clearances: &'a [u8],
+    roles: &'a [u8],
+    trusts: &'a [u8],
+    n: u8,
+) -> usize
+    requires { ⌜ start ≤ 65536 ⌝ }
+    ensures { λ x. ⌜ Stored (now (out .entry)) start
+        (userRecords n (usersFrom (now (clearances .entry)) (now (roles .entry)) (now (trusts .entry)))) (now (out .exit)) x ⌝ }
 {
+    let mut place = start;
     let mut k: u8 = 0;
     while k < n {
         let u = state::user_at(clearances, roles, trusts, k as usize);
         let r = user_record(u);
-        put_record(out, 8 + (k as usize) * 8, r);
+        place = put_record(out, place, r);
         k += 1;
-    }
-}
-
-// A live object is stored at a place, which moves on by a record; one that is not live is passed over.
-fn put_object(out: &mut [u8], place: usize, o: Object) -> usize
-    requires { ⌜ place + length (liveBytes o) ≤ length (now out) ⌝ }
-    ensures { λ x. ⌜ now (out .exit) ≡ sets (now (out .entry)) place (liveBytes o) ⌝ }
-    ensures { λ x. ⌜ x ≡ place + length (liveBytes o) ⌝ }
-{
-    if o.live == 1 {
-        let r = object_record(o);
-        put_record(out, place, r);
-        return place + 8;
     }
     place
 }
 
-// The live ones of the first n objects are stored from a place on.
+// A live object's record; none of one that is not live.
+fn put_live(out: &mut [u8], place: usize, o: Object) -> usize
+    requires { ⌜ place ≤ 131072 ⌝ }
+    ensures { λ x. ⌜ Stored (now (out .entry)) place (liveRecord o) (now (out .exit)) x ⌝ }
+{
+    if o.live == 1 {
+        let r = object_record(o);
+        return put_record(out, place, r);
+    }
+    place
+}
+
+// The section of objects: the live ones of the first n.
 fn put_objects<'a>(
     out: &mut [u8],
     start: usize,
@@ -281,75 +427,56 @@ fn put_objects<'a>(
     categories: &'a [u8],
     datatypes: &'a [u8],
     n: u8,
-)
-    requires { ⌜ start + length (objectBytes n (objectsFrom (now lives) (now kinds) (now levels) (now categories) (now datatypes))) ≤ length (now out) ⌝ }
-    ensures { λ x. ⌜ now (out .exit)
-        ≡ sets (now (out .entry)) start (objectBytes n (objectsFrom (now (lives .entry)) (now (kinds .entry)) (now (levels .entry))
-        (now (categories .entry)) (now (datatypes .entry)))) ⌝ }
+) -> usize
+    requires { ⌜ start ≤ 65536 ⌝ }
+    ensures { λ x. ⌜ Stored (now (out .entry)) start
+        (objectRecords n (objectsFrom (now (lives .entry)) (now (kinds .entry)) (now (levels .entry)) (now (categories .entry)) (now (datatypes .entry))))
+        (now (out .exit)) x ⌝ }
 {
     let mut place = start;
     let mut k: u8 = 0;
     while k < n {
         let o = state::object_at(lives, kinds, levels, categories, datatypes, k as usize);
-        place = put_object(out, place, o);
+        place = put_live(out, place, o);
         k += 1;
     }
+    place
 }
 
-// How many of the first n objects are live.
-fn count_live(lives: &[u8], n: u8) -> usize
-    ensures { λ x. ⌜ x ≡ liveCount (now (lives .entry)) n ⌝ }
-    ensures { λ x. ⌜ x ≤ 255 ⌝ }
+// All sections, one after the other, as far as they fit. Answers the length of the whole.
+fn put_sections(f: Facility, out: &mut [u8]) -> usize
+    ensures { λ x. ⌜ Stored (now (out .entry)) 0 (setupRecords f) (now (out .exit)) x ⌝ }
 {
-    let mut count: usize = 0;
-    let mut k: u8 = 0;
-    while k < n {
-        count += one_if(state::at(lives, k as usize) == 1);
-        k += 1;
-    }
-    count
-}
-
-fn one_if(test: bool) -> usize
-    ensures { λ x. ⌜ x ≡ cond test 1 0 ⌝ }
-    ensures { λ x. ⌜ x ≤ 1 ⌝ }
-{
-    if test { 1 } else { 0 }
-}
-
-// Writes a facility's set-up into a lent buffer that holds it all; else the buffer stays as it is.
-pub fn write_setup(f: Facility, out: &mut [u8]) -> WriteOutcome
-    ensures { λ x. ⌜ x ≡ (writeSetup f (now (out .entry))) .outcome ⌝ }
-    ensures { λ x. ⌜ now (out .exit) ≡ (writeSetup f (now (out .entry))) .buffer ⌝ }
-{
-    let users = f.users;
-    let live = count_live(&f.lives, f.entered);
-    let start = 8 + (users as usize) * 8;
-    let need = start + live * 8;
-    if out.len() < need {
-        return WriteOutcome::NoRoom;
-    }
-    let first = SetupRecord {
-        kind: 3,
-        one: f.mac,
-        two: f.fc,
-        three: f.sim,
-        four: 0,
-        five: 0,
-        six: 0,
-        seven: 0,
+    let switches = Switches {
+        mac: f.mac,
+        fc: f.fc,
+        sim: f.sim,
     };
-    put_record(out, 0, first);
-    put_users(out, &f.clearances, &f.roles, &f.trusts, users);
+    let first = switches_record(switches);
+    let users = put_record(out, 0, first);
+    let objects = put_users(out, users, &f.clearances, &f.roles, &f.trusts, f.users);
     put_objects(
         out,
-        start,
+        objects,
         &f.lives,
         &f.kinds,
         &f.levels,
         &f.categories,
         &f.datatypes,
         f.entered,
-    );
-    WriteOutcome::Written { length: need }
+    )
+}
+
+// Writes a facility's set-up into a lent buffer that holds it all; else the buffer stays as it is. A first pass over none of the buffer
+// tells the length.
+pub fn write_setup(f: Facility, out: &mut [u8]) -> WriteOutcome
+    ensures { λ x. ⌜ x ≡ (writeSetup f (now (out .entry))) .outcome ⌝ }
+    ensures { λ x. ⌜ now (out .exit) ≡ (writeSetup f (now (out .entry))) .buffer ⌝ }
+{
+    let need = put_sections(f, &mut out[..0]);
+    if out.len() < need {
+        return WriteOutcome::NoRoom;
+    }
+    let length = put_sections(f, out);
+    WriteOutcome::Written { length }
 }

@@ -4,26 +4,24 @@ pub use Rattle.state.specs.declared.Process.{Process}
 pub use Rattle.state.specs.declared.Object.{Object}
 pub use Rattle.state.specs.declared.User.{User}
 pub use Rattle.state.specs.declared.Call.{Call}
-use Prim.Native.Nat.{ℕ, zero, suc, _+_, _*_, _/_, _%_}
+pub use Rattle.state.specs.declared.Switches.{Switches}
+pub use Rattle.state.specs.declared.Change.{Change}
+pub use Rattle.state.specs.declared.Change.the-variants.{NoChange, PutProcess, CloneProcess, EndProcess, UseObject, CreateObject, EnterObject}
+pub use Rattle.state.specs.declared.Change.the-variants.{CountRefusal}
+pub use Rattle.opens.specs.declared.OpenChange.{OpenChange}
+pub use Rattle.opens.specs.declared.OpenChange.the-variants.{Keep, Add, Close, CloseAll}
+use Prim.Native.Nat.{ℕ, _+_}
+use mathlib.Core.List.{List}
 use mathlib.Core.Bool.{Bool, cond}
-use mathlib.Core.List.{List, [], _∷_}
-use lib.Dec.{ltb, eqb}
+use lib.Dec.{ltb}
 use lib.ListN.{set, replicate}
-use Rattle.state.specs.Tests.{_or_, at, on}
-use Rattle.state.specs.Labels.{Label, label, bottom, top}
+use Rattle.labels.specs.Decisions.{at, on}
+use Rattle.labels.specs.Labels.{label, Label, bottom, top}
+use Rattle.opens.specs.Opens.{markPlace, mostObjects, copyProcess, addModes, closeObject, closeProcess, mostProcesses, mostOpens}
 
 -- users are 0..15, processes 0..31, object numbers 0..127
 abbrev pub mostUsers : ℕ
 mostUsers = 16
-
-abbrev pub mostProcesses : ℕ
-mostProcesses = 32
-
-abbrev pub mostObjects : ℕ
-mostObjects = 128
-
-abbrev pub mostOpens : ℕ
-mostOpens = 4096
 
 -- where the counter of refusals stops
 abbrev pub mostRefusals : ℕ
@@ -107,6 +105,13 @@ objectOf f t = objectIn (objectsIn f) t
 abbrev pub userOf : Facility → ℕ → User
 userOf f u = userIn (usersIn f) u
 
+-- its switches, and those with all off
+abbrev pub switchesOf : Facility → Switches
+switchesOf f = record { mac = f .mac; fc = f .fc; sim = f .sim }
+
+abbrev pub allOff : Switches
+allOff = record { mac = 0; fc = 0; sim = 0 }
+
 -- whether process p runs, object t is live, u is a user, and u is a trusted one
 abbrev pub runs : Facility → ℕ → Bool
 runs f p = on ((processOf f p) .running)
@@ -129,42 +134,8 @@ clearanceOf f u = (userOf f u) .clearance
 abbrev pub isAutomatic : Process → Bool
 isAutomatic r = on (r .automatic)
 
--- The opens: two bits in one byte for each process and object.
-abbrev pub place : ℕ → ℕ → ℕ
-place p t = p * mostObjects + t
-
--- where the marks of process p on object t stand; past the end of the array where p or t is no such number
-unfoldable pub markPlace : ℕ → ℕ → ℕ
-markPlace p t = cond (ltb t mostObjects) (place p t) mostOpens
-
 unfoldable pub opensOf : Facility → ℕ → ℕ → ℕ
 opensOf f p t = at (f .opens) (markPlace p t)
-
--- open for reading, open for writing
-unfoldable pub reading : ℕ → Bool
-reading v = eqb (v % 2) 1
-
-unfoldable pub writing : ℕ → Bool
-writing v = eqb (v / 2 % 2) 1
-
--- the marks v with those of m added
-unfoldable pub addModes : ℕ → ℕ → ℕ
-addModes v m = cond (reading v or reading m) 1 0 + cond (writing v or writing m) 2 0
-
--- the list of n elements by a rule
-unfoldable pub build : ℕ → (ℕ → ℕ) → List ℕ
-build zero g = []
-build (suc n) g = g zero ∷ build n (λ i. g (suc i))
-
--- the opens after those on object t are dropped, after those of process p are, and after process t gets a copy of p's
-unfoldable pub closeObject : List ℕ → ℕ → List ℕ
-closeObject l t = build mostOpens (λ i. cond (eqb (i % mostObjects) t) 0 (at l i))
-
-unfoldable pub closeProcess : List ℕ → ℕ → List ℕ
-closeProcess l p = build mostOpens (λ i. cond (eqb (i / mostObjects) p) 0 (at l i))
-
-unfoldable pub copyProcess : List ℕ → ℕ → ℕ → List ℕ
-copyProcess l p t = build mostOpens (λ i. cond (eqb (i / mostObjects) t) (at l (place p (i % mostObjects))) (at l i))
 
 -- the facility with f's switches, and these counts and parts
 abbrev pub with : Facility → ℕ → Users → ℕ → Objects → Processes → List ℕ → ℕ → Facility
@@ -264,6 +235,18 @@ unfoldable pub freshProcess : ℕ → Process
 freshProcess u =
     record { running = 1; owner = u; current = bottom; readmark = bottom; writemark = top; automatic = 1 }
 
+-- r with this current level, read mark and write mark, and automatic so; all else stays
+abbrev pub withLevels : Process → Label → Label → Label → ℕ → Process
+withLevels r current readmark writemark automatic =
+    record {
+      running = r .running;
+      owner = r .owner;
+      current = current;
+      readmark = readmark;
+      writemark = writemark;
+      automatic = automatic;
+    }
+
 -- the process of a number that does not run: nothing is kept of it
 unfoldable pub noProcess : Process
 noProcess =
@@ -285,13 +268,31 @@ deleted f t = dropObject (putOpens f (closeObject (f .opens) t)) t
 abbrev pub terminated : Facility → ℕ → Facility
 terminated f p = putOpens (putProcess f p noProcess) (closeProcess (f .opens) p)
 
+-- opens add their modes, close drops both, delete drops the object and all opens on it
+unfoldable pub openBy : OpenChange → Facility → ℕ → ℕ → Facility
+openBy Keep f p t = f
+openBy (Add m) f p t = opened f p t m
+openBy Close f p t = closed f p t
+openBy CloseAll f p t = deleted f t
+
+-- What a call changes, and the facility after it.
+abbrev pub changed : Facility → Change → Facility
+changed f NoChange = f
+changed f (PutProcess p r) = putProcess f p r
+changed f (CloneProcess p t) = cloned f p t
+changed f (EndProcess p) = terminated f p
+changed f (UseObject p r t o) = openBy o (putProcess f p r) p t
+changed f (CreateObject p r o) = addObject (putProcess f p r) o
+changed f (EnterObject o) = addObject f o
+changed f CountRefusal = counted f
+
 -- with these switches: no user, no object, no process, no refusal
-unfoldable pub blank : ℕ → ℕ → ℕ → Facility
-blank mac fc sim =
+unfoldable pub blank : Switches → Facility
+blank s =
     record {
-      mac = mac;
-      fc = fc;
-      sim = sim;
+      mac = s .mac;
+      fc = s .fc;
+      sim = s .sim;
       users = 0;
       clearances = replicate mostUsers 0;
       roles = replicate mostUsers 0;

@@ -1,57 +1,25 @@
-// The types of the facility: what a call and a set-up are answered with, labels, processes, users, objects and the state that holds them.
-ghost use mathlib.Core.Bool.{cond};
+// The state: processes, users, objects and the facility that holds them, with its methods by value.
 ghost use mathlib.Core.Path.{_≡_};
-ghost use Rattle.state.specs.Answers.{code, combine, isNotGranted, isUndefined, grant};
-ghost use Rattle.state.specs.Labels.{label, leq, same, join, meet, given};
-ghost use Rattle.state.specs.Loops.{clearColumn, clearRow, copyRow};
-ghost use Rattle.state.specs.Outcomes.{answersFrom, outcomeOf, numberOf, answersOf, objectNumberOf, denies};
-ghost use Prim.Native.Nat.{_<_, _≤_};
-ghost use mathlib.Core.Logic.{_≢_};
-ghost use lib.ListN.{getD, set};
-ghost use Rattle.state.specs.State.{addModes, addObject, addUser, blank, cloned, closeProcess, closed, copyProcess, counted, deleted, freshProcess};
-ghost use Rattle.state.specs.State.{noProcess, objectIn, objectOf, markPlace, objectsFrom, opened, processIn, processOf, processesFrom, putOpens};
-ghost use Rattle.state.specs.State.{putProcess, reading, terminated, userIn, userOf, usersFrom, writing};
+ghost use lib.ListN.{getD};
+ghost use Rattle.state.specs.State.{addObject, addUser, allOff, blank, changed, cloned, closed, counted, deleted, freshProcess, noProcess, objectIn};
+ghost use Rattle.state.specs.State.{objectOf, objectsFrom, openBy, opened, processIn, processOf, processesFrom, putOpens, putProcess, terminated};
+ghost use Rattle.state.specs.State.{userIn, userOf, usersFrom};
+ghost use Rattle.labels.specs.Labels.{label};
+ghost use Rattle.opens.specs.Opens.{closeObject, closeProcess, copyProcess};
+use labels::Label;
+use opens::OpenChange;
 
-// What a module answers to a call.
-pub enum Answer {
-    NotCared,
-    Granted,
-    NotGranted,
-    Undefined,
-}
+// How many users, processes and objects there are, and so pairs of a process and an object.
+pub const USERS: usize = 16;
 
-// The answers that a call returns: one of each module, and their combination.
-pub struct Answers {
-    pub mac: Answer,
-    pub fc: Answer,
-    pub sim: Answer,
-    pub combined: Answer,
-}
+pub const PROCESSES: usize = opens::PROCESSES as usize;
 
-// What a call comes to.
-pub enum Outcome {
-    // Number 0. `object` is the number that create gave, 255 with every other request.
-    Accepted { answers: Answers, object: u8 },
-    // Number 12 or 13: the modules' combined answer refuses.
-    Denied { answers: Answers, number: u8 },
-    // Number 1 to 11: the modules are not asked.
-    Refused { number: u8 },
-}
+pub const OBJECTS: usize = opens::OBJECTS as usize;
 
-// What reading a set-up comes to.
-pub enum SetupOutcome {
-    Accepted,
-    // Number 14 to 17, and the index of the record that is refused.
-    Refused { number: u8, index: u8 },
-}
+pub const PAIRS: usize = opens::PAIRS as usize;
 
-// What writing a set-up out comes to.
-pub enum WriteOutcome {
-    // The number of bytes written.
-    Written { length: usize },
-    // Number 18: the lent buffer does not hold them all.
-    NoRoom,
-}
+// Where the counter of refusals stops.
+pub const MOST_REFUSALS: u32 = 4294967295;
 
 // A call: four bytes.
 pub struct Call {
@@ -59,12 +27,6 @@ pub struct Call {
     pub process: u8,
     pub target: u8,
     pub extra: u8,
-}
-
-// What levels, marks and clearances are compared by. Only the operations on labels look inside.
-#[repr(C)]
-pub struct Label {
-    pub level: u8,
 }
 
 // A process: `current`, `readmark` and `writemark` move with its calls.
@@ -95,6 +57,51 @@ pub struct Object {
     pub datatype: u8,
 }
 
+// Which modules are on, each 0 or 1.
+#[repr(C)]
+pub struct Switches {
+    pub mac: u8,
+    pub fc: u8,
+    pub sim: u8,
+}
+
+// What a call changes; p and t are numbers of processes or objects.
+pub enum Change {
+    NoChange,
+    // Process p becomes r.
+    PutProcess {
+        p: u8,
+        r: Process,
+    },
+    // Process t becomes a clone of p.
+    CloneProcess {
+        p: u8,
+        t: u8,
+    },
+    // Process p terminates.
+    EndProcess {
+        p: u8,
+    },
+    // Process p becomes r, and the opens of object t change.
+    UseObject {
+        p: u8,
+        r: Process,
+        t: u8,
+        opens: OpenChange,
+    },
+    // Process p becomes r, and an object is entered.
+    CreateObject {
+        p: u8,
+        r: Process,
+        o: Object,
+    },
+    EnterObject {
+        o: Object,
+    },
+    // One more refusal is counted.
+    CountRefusal,
+}
+
 #[repr(C)]
 pub struct Facility {
     // Switches, each 0 or 1.
@@ -103,214 +110,27 @@ pub struct Facility {
     pub sim: u8,
     // Users, by user number.
     pub users: u8,
-    pub clearances: [u8; 16],
-    pub roles: [u8; 16],
-    pub trusts: [u8; 16],
+    pub clearances: [u8; USERS],
+    pub roles: [u8; USERS],
+    pub trusts: [u8; USERS],
     // Objects, by object number; `entered` counts the deleted ones too.
     pub entered: u8,
-    pub lives: [u8; 128],
-    pub kinds: [u8; 128],
-    pub levels: [u8; 128],
-    pub categories: [u8; 128],
-    pub datatypes: [u8; 128],
+    pub lives: [u8; OBJECTS],
+    pub kinds: [u8; OBJECTS],
+    pub levels: [u8; OBJECTS],
+    pub categories: [u8; OBJECTS],
+    pub datatypes: [u8; OBJECTS],
     // Processes, by process number.
-    pub runnings: [u8; 32],
-    pub owners: [u8; 32],
-    pub currents: [u8; 32],
-    pub readmarks: [u8; 32],
-    pub writemarks: [u8; 32],
-    pub automatics: [u8; 32],
+    pub runnings: [u8; PROCESSES],
+    pub owners: [u8; PROCESSES],
+    pub currents: [u8; PROCESSES],
+    pub readmarks: [u8; PROCESSES],
+    pub writemarks: [u8; PROCESSES],
+    pub automatics: [u8; PROCESSES],
     // At process * 128 + object: bit 0 open for reading, bit 1 open for writing.
-    pub opens: [u8; 4096],
+    pub opens: [u8; PAIRS],
     // Calls refused with 12 or 13, up to 4,294,967,295.
     pub refusals: u32,
-}
-
-impl Answer {
-    // The paper's number of an answer.
-    pub fn code(self) -> u8
-        ensures { λ r. ⌜ r ≡ code self ⌝ }
-    {
-        match self {
-            Answer::NotCared => 0,
-            Answer::Granted => 1,
-            Answer::NotGranted => 2,
-            Answer::Undefined => 3,
-        }
-    }
-
-    // Table 4.7: the one with the larger number.
-    fn combine(self, other: Answer) -> Answer
-        ensures { λ r. ⌜ r ≡ combine self other ⌝ }
-    {
-        if self.code() < other.code() {
-            other
-        } else {
-            self
-        }
-    }
-
-    pub fn is_not_granted(self) -> bool
-        ensures { λ r. ⌜ r ≡ isNotGranted self ⌝ }
-    {
-        match self {
-            Answer::NotCared => false,
-            Answer::Granted => false,
-            Answer::NotGranted => true,
-            Answer::Undefined => false,
-        }
-    }
-
-    pub fn is_undefined(self) -> bool
-        ensures { λ r. ⌜ r ≡ isUndefined self ⌝ }
-    {
-        match self {
-            Answer::NotCared => false,
-            Answer::Granted => false,
-            Answer::NotGranted => false,
-            Answer::Undefined => true,
-        }
-    }
-
-    // Granted where a test holds, else not granted.
-    pub fn grant(test: bool) -> Answer
-        ensures { λ r. ⌜ r ≡ grant test ⌝ }
-    {
-        if test {
-            Answer::Granted
-        } else {
-            Answer::NotGranted
-        }
-    }
-}
-
-impl Answers {
-    // The answers of the three modules, with their combination.
-    pub fn of(mac: Answer, fc: Answer, sim: Answer) -> Answers
-        ensures { λ r. ⌜ r ≡ answersFrom mac fc sim ⌝ }
-    {
-        let rest = fc.combine(sim);
-        let combined = mac.combine(rest);
-        Answers {
-            mac,
-            fc,
-            sim,
-            combined,
-        }
-    }
-}
-
-impl Label {
-    pub fn of(level: u8) -> Label
-        ensures { λ r. ⌜ r ≡ label level ⌝ }
-    {
-        Label { level }
-    }
-
-    // The other label is at least this one.
-    pub fn at_most(self, other: Label) -> bool
-        ensures { λ r. ⌜ r ≡ leq self other ⌝ }
-    {
-        other.level >= self.level
-    }
-
-    pub fn same(self, other: Label) -> bool
-        ensures { λ r. ⌜ r ≡ same self other ⌝ }
-    {
-        self.level == other.level
-    }
-
-    // The least label above both.
-    pub fn join(self, other: Label) -> Label
-        ensures { λ r. ⌜ r ≡ join self other ⌝ }
-    {
-        if other.level < self.level {
-            self
-        } else {
-            other
-        }
-    }
-
-    // The greatest label below both.
-    pub fn meet(self, other: Label) -> Label
-        ensures { λ r. ⌜ r ≡ meet self other ⌝ }
-    {
-        if self.level <= other.level {
-            self
-        } else {
-            other
-        }
-    }
-
-    // Whether an object's label is set.
-    pub fn is_given(self) -> bool
-        ensures { λ r. ⌜ r ≡ given self ⌝ }
-    {
-        self.level != 255
-    }
-}
-
-impl Outcome {
-    pub fn of(number: u8, answers: Answers, object: u8) -> Outcome
-        ensures { λ r. ⌜ r ≡ outcomeOf number answers object ⌝ }
-    {
-        if number == 0 {
-            return Outcome::Accepted { answers, object };
-        }
-        if is_denial(number) {
-            return Outcome::Denied { answers, number };
-        }
-        Outcome::Refused { number }
-    }
-
-    // The paper's number, answers and object number.
-    pub fn number(self) -> u8
-        ensures { λ r. ⌜ r ≡ numberOf self ⌝ }
-    {
-        match self {
-            Outcome::Accepted {
-                answers: _,
-                object: _,
-            } => 0,
-            Outcome::Denied { answers: _, number } => number,
-            Outcome::Refused { number } => number,
-        }
-    }
-
-    pub fn answers(self) -> Answers
-        ensures { λ r. ⌜ r ≡ answersOf self ⌝ }
-    {
-        match self {
-            Outcome::Accepted { answers, object: _ } => answers,
-            Outcome::Denied { answers, number: _ } => answers,
-            Outcome::Refused { number: _ } => Answers {
-                mac: Answer::NotCared,
-                fc: Answer::NotCared,
-                sim: Answer::NotCared,
-                combined: Answer::NotCared,
-            },
-        }
-    }
-
-    pub fn object(self) -> u8
-        ensures { λ r. ⌜ r ≡ objectNumberOf self ⌝ }
-    {
-        match self {
-            Outcome::Accepted { answers: _, object } => object,
-            Outcome::Denied {
-                answers: _,
-                number: _,
-            } => 255,
-            Outcome::Refused { number: _ } => 255,
-        }
-    }
-}
-
-// Whether a number is one by which the modules' combined answer refuses.
-pub fn is_denial(number: u8) -> bool
-    ensures { λ r. ⌜ r ≡ denies number ⌝ }
-{
-    (number == 12) | (number == 13)
 }
 
 impl Process {
@@ -346,89 +166,18 @@ impl Process {
     }
 }
 
-// Open for reading and open for writing are two bits in one byte.
-pub fn reading(marks: u8) -> bool
-    ensures { λ r. ⌜ r ≡ reading marks ⌝ }
-{
-    marks % 2 == 1
-}
-
-pub fn writing(marks: u8) -> bool
-    ensures { λ r. ⌜ r ≡ writing marks ⌝ }
-{
-    marks / 2 % 2 == 1
-}
-
-// The marks with those of `modes` added.
-pub fn add_modes(marks: u8, modes: u8) -> u8
-    ensures { λ r. ⌜ r ≡ addModes marks modes ⌝ }
-{
-    let reads = reading(marks) | reading(modes);
-    let writes = writing(marks) | writing(modes);
-    bit(reads, 1) + bit(writes, 2)
-}
-
-fn bit(set: bool, value: u8) -> u8
-    ensures { λ r. ⌜ r ≡ cond set value 0 ⌝ }
-    ensures { λ r. ⌜ r ≤ value ⌝ }
-{
-    if set { value } else { 0 }
-}
-
-// Where the marks of process p on object t stand, past the end where there are none: the one guard of numbers that are none.
-pub fn mark_place(p: u8, t: u8) -> u16
-    ensures { λ r. ⌜ r ≡ markPlace p t ⌝ }
-{
-    if 128 <= t {
-        return 4096;
-    }
-    (p as u16) * 128 + (t as u16)
-}
-
-// All marks of process p go.
-fn clear_row(opens: &mut [u8; 4096], p: usize)
-    requires { ⌜ p < 32 ⌝ }
-    ensures { λ r. ⌜ now (opens .exit) ≡ clearRow (now (opens .entry)) p ⌝ }
-{
-    let base = p * 128;
-    let mut k = 0;
-    while k < 128 {
-        opens[base + k] = 0;
-        k += 1;
-    }
-}
-
-// The marks of process t become those of p.
-fn copy_row(opens: &mut [u8; 4096], p: usize, t: usize)
-    requires { ⌜ (p < 32) × (t < 32) × (p ≢ t) ⌝ }
-    ensures { λ r. ⌜ now (opens .exit) ≡ copyRow (now (opens .entry)) p t ⌝ }
-{
-    let from = p * 128;
-    let base = t * 128;
-    let mut k = 0;
-    while k < 128 {
-        opens[base + k] = opens[from + k];
-        k += 1;
-    }
-}
-
-// All marks on object t go.
-fn clear_column(opens: &mut [u8; 4096], t: usize)
-    requires { ⌜ t < 128 ⌝ }
-    ensures { λ r. ⌜ now (opens .exit) ≡ clearColumn (now (opens .entry)) t ⌝ }
-{
-    let mut p = 0;
-    while p < 32 {
-        opens[p * 128 + t] = 0;
-        p += 1;
-    }
-}
-
 // The element of an array, 0 outside it.
 pub fn at(array: &[u8], i: usize) -> u8
     ensures { λ r. ⌜ r ≡ getD (now (array .entry)) i 0 ⌝ }
 {
     if i < array.len() { array[i] } else { 0 }
+}
+
+// The label of a level byte of an array.
+fn label_at(levels: &[u8], i: usize) -> Label
+    ensures { λ r. ⌜ r ≡ label (getD (now (levels .entry)) i 0) ⌝ }
+{
+    Label::of(at(levels, i))
 }
 
 // Process p out of the arrays of a facility, which are lent and not copied; so with object t and user u.
@@ -444,9 +193,9 @@ pub fn process_at<'a>(
     ensures { λ r. ⌜ r ≡ processIn (processesFrom (now (runnings .entry)) (now (owners .entry)) (now (currents .entry)) (now (readmarks .entry))
         (now (writemarks .entry)) (now (automatics .entry))) p ⌝ }
 {
-    let current = Label::of(at(currents, p));
-    let readmark = Label::of(at(readmarks, p));
-    let writemark = Label::of(at(writemarks, p));
+    let current = label_at(currents, p);
+    let readmark = label_at(readmarks, p);
+    let writemark = label_at(writemarks, p);
     Process {
         running: at(runnings, p),
         owner: at(owners, p),
@@ -468,7 +217,7 @@ pub fn object_at<'a>(
     ensures { λ r. ⌜ r ≡ objectIn (objectsFrom (now (lives .entry)) (now (kinds .entry)) (now (levels .entry)) (now (categories .entry))
         (now (datatypes .entry))) t ⌝ }
 {
-    let label = Label::of(at(levels, t));
+    let label = label_at(levels, t);
     Object {
         live: at(lives, t),
         kind: at(kinds, t),
@@ -481,7 +230,7 @@ pub fn object_at<'a>(
 pub fn user_at<'a>(clearances: &'a [u8], roles: &'a [u8], trusts: &'a [u8], u: usize) -> User
     ensures { λ r. ⌜ r ≡ userIn (usersFrom (now (clearances .entry)) (now (roles .entry)) (now (trusts .entry))) u ⌝ }
 {
-    let clearance = Label::of(at(clearances, u));
+    let clearance = label_at(clearances, u);
     User {
         clearance,
         role: at(roles, u),
@@ -489,33 +238,64 @@ pub fn user_at<'a>(clearances: &'a [u8], roles: &'a [u8], trusts: &'a [u8], u: u
     }
 }
 
+// The array of opens, lent as a slice: a field that is an array cannot be.
+fn close_process(marks: &mut [u8; PAIRS], p: u8)
+    ensures { λ r. ⌜ now (marks .exit) ≡ closeProcess (now (marks .entry)) p ⌝ }
+{
+    opens::close_process(marks, p);
+}
+
+fn copy_process(marks: &mut [u8; PAIRS], p: u8, t: u8)
+    ensures { λ r. ⌜ now (marks .exit) ≡ copyProcess (now (marks .entry)) p t ⌝ }
+{
+    opens::copy_process(marks, p, t);
+}
+
+fn close_object(marks: &mut [u8; PAIRS], t: u8)
+    ensures { λ r. ⌜ now (marks .exit) ≡ closeObject (now (marks .entry)) t ⌝ }
+{
+    opens::close_object(marks, t);
+}
+
+impl Switches {
+    pub fn off() -> Switches
+        ensures { λ x. ⌜ x ≡ allOff ⌝ }
+    {
+        Switches {
+            mac: 0,
+            fc: 0,
+            sim: 0,
+        }
+    }
+}
+
 // The changes of a facility: it is handed in and back by value. A number that is none changes nothing.
 impl Facility {
     // The fresh facility of one switches record: no user, no object, no process, no refusal.
-    pub fn blank(mac: u8, fc: u8, sim: u8) -> Facility
-        ensures { λ x. ⌜ x ≡ blank mac fc sim ⌝ }
+    pub fn blank(s: Switches) -> Facility
+        ensures { λ x. ⌜ x ≡ blank s ⌝ }
     {
         Facility {
-            mac,
-            fc,
-            sim,
+            mac: s.mac,
+            fc: s.fc,
+            sim: s.sim,
             users: 0,
-            clearances: [0; 16],
-            roles: [0; 16],
-            trusts: [0; 16],
+            clearances: [0; USERS],
+            roles: [0; USERS],
+            trusts: [0; USERS],
             entered: 0,
-            lives: [0; 128],
-            kinds: [0; 128],
-            levels: [0; 128],
-            categories: [0; 128],
-            datatypes: [0; 128],
-            runnings: [0; 32],
-            owners: [0; 32],
-            currents: [0; 32],
-            readmarks: [0; 32],
-            writemarks: [0; 32],
-            automatics: [0; 32],
-            opens: [0; 4096],
+            lives: [0; OBJECTS],
+            kinds: [0; OBJECTS],
+            levels: [0; OBJECTS],
+            categories: [0; OBJECTS],
+            datatypes: [0; OBJECTS],
+            runnings: [0; PROCESSES],
+            owners: [0; PROCESSES],
+            currents: [0; PROCESSES],
+            readmarks: [0; PROCESSES],
+            writemarks: [0; PROCESSES],
+            automatics: [0; PROCESSES],
+            opens: [0; PAIRS],
             refusals: 0,
         }
     }
@@ -525,7 +305,7 @@ impl Facility {
         ensures { λ x. ⌜ x ≡ putProcess self p r ⌝ }
     {
         let i = p as usize;
-        if i < 32 {
+        if i < PROCESSES {
             self.runnings[i] = r.running;
             self.owners[i] = r.owner;
             self.currents[i] = r.current.level;
@@ -534,13 +314,6 @@ impl Facility {
             self.automatics[i] = r.automatic;
         }
         self
-    }
-
-    // Login of a user as process p.
-    pub fn logged_in(self, p: u8, user: u8) -> Facility
-        ensures { λ x. ⌜ x ≡ putProcess self p (freshProcess user) ⌝ }
-    {
-        self.with_process(p, Process::fresh(user))
     }
 
     // The process of a number.
@@ -586,10 +359,7 @@ impl Facility {
     fn with_closed_row(mut self, p: u8) -> Facility
         ensures { λ x. ⌜ x ≡ putOpens self (closeProcess (self .opens) p) ⌝ }
     {
-        let i = p as usize;
-        if i < 32 {
-            clear_row(&mut self.opens, i);
-        }
+        close_process(&mut self.opens, p);
         self
     }
 
@@ -597,19 +367,7 @@ impl Facility {
     fn with_copied_row(mut self, p: u8, t: u8) -> Facility
         ensures { λ x. ⌜ x ≡ putOpens self (copyProcess (self .opens) p t) ⌝ }
     {
-        let i = p as usize;
-        let j = t as usize;
-        if 32 <= j {
-            return self;
-        }
-        if i == j {
-            return self;
-        }
-        if 32 <= i {
-            clear_row(&mut self.opens, j);
-            return self;
-        }
-        copy_row(&mut self.opens, i, j);
+        copy_process(&mut self.opens, p, t);
         self
     }
 
@@ -633,17 +391,17 @@ impl Facility {
         ensures { λ x. ⌜ x ≡ opened (putProcess self p r) p t modes ⌝ }
     {
         let i = p as usize;
-        let k = mark_place(p, t) as usize;
-        if i < 32 {
+        let k = opens::mark_place(p, t) as usize;
+        if i < PROCESSES {
             self.runnings[i] = r.running;
             self.owners[i] = r.owner;
             self.currents[i] = r.current.level;
             self.readmarks[i] = r.readmark.level;
             self.writemarks[i] = r.writemark.level;
             self.automatics[i] = r.automatic;
-            if k < 4096 {
+            if k < PAIRS {
                 let marks = at(&self.opens, k);
-                self.opens[k] = add_modes(marks, modes);
+                self.opens[k] = opens::add_modes(marks, modes);
             }
         }
         self
@@ -654,15 +412,15 @@ impl Facility {
         ensures { λ x. ⌜ x ≡ closed (putProcess self p r) p t ⌝ }
     {
         let i = p as usize;
-        let k = mark_place(p, t) as usize;
-        if i < 32 {
+        let k = opens::mark_place(p, t) as usize;
+        if i < PROCESSES {
             self.runnings[i] = r.running;
             self.owners[i] = r.owner;
             self.currents[i] = r.current.level;
             self.readmarks[i] = r.readmark.level;
             self.writemarks[i] = r.writemark.level;
             self.automatics[i] = r.automatic;
-            if k < 4096 {
+            if k < PAIRS {
                 self.opens[k] = 0;
             }
         }
@@ -674,8 +432,8 @@ impl Facility {
         ensures { λ x. ⌜ x ≡ deleted self t ⌝ }
     {
         let i = t as usize;
-        if i < 128 {
-            clear_column(&mut self.opens, i);
+        close_object(&mut self.opens, t);
+        if i < OBJECTS {
             self.lives[i] = 0;
         }
         self
@@ -687,7 +445,7 @@ impl Facility {
     {
         let n = self.entered;
         let i = n as usize;
-        if i < 128 {
+        if i < OBJECTS {
             self.lives[i] = o.live;
             self.kinds[i] = o.kind;
             self.levels[i] = o.label.level;
@@ -704,7 +462,7 @@ impl Facility {
     {
         let n = self.users;
         let i = n as usize;
-        if i < 16 {
+        if i < USERS {
             self.clearances[i] = u.clearance.level;
             self.roles[i] = u.role;
             self.trusts[i] = u.trusted;
@@ -718,9 +476,37 @@ impl Facility {
         ensures { λ x. ⌜ x ≡ counted self ⌝ }
     {
         let n = self.refusals;
-        if n < 4294967295 {
+        if n < MOST_REFUSALS {
             self.refusals = n + 1;
         }
         self
+    }
+
+    // What a request on an object does: process p becomes r, and the opens of object t change.
+    fn used(self, p: u8, r: Process, t: u8, opens: OpenChange) -> Facility
+        ensures { λ x. ⌜ x ≡ openBy opens (putProcess self p r) p t ⌝ }
+    {
+        match opens {
+            OpenChange::Keep => self.with_process(p, r),
+            OpenChange::Add(modes) => self.opened(p, r, t, modes),
+            OpenChange::Close => self.closed(p, r, t),
+            OpenChange::CloseAll => self.with_process(p, r).deleted(t),
+        }
+    }
+
+    // The facility after a change.
+    pub fn changed(self, change: Change) -> Facility
+        ensures { λ x. ⌜ x ≡ changed self change ⌝ }
+    {
+        match change {
+            Change::NoChange => self,
+            Change::PutProcess { p, r } => self.with_process(p, r),
+            Change::CloneProcess { p, t } => self.cloned(p, t),
+            Change::EndProcess { p } => self.terminated(p),
+            Change::UseObject { p, r, t, opens } => self.used(p, r, t, opens),
+            Change::CreateObject { p, r, o } => self.with_process(p, r).with_object(o),
+            Change::EnterObject { o } => self.with_object(o),
+            Change::CountRefusal => self.counted(),
+        }
     }
 }

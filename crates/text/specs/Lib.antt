@@ -1,3 +1,3 @@
--- Text stored into a lent buffer.
+-- Definitions beside document 01's: a text stored into a lent buffer.
 pub mod Stored
-pub mod Decimals
+pub mod Laws

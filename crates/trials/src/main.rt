@@ -4,14 +4,14 @@
 // number, and of what replay returns the counter of refusals, the objects entered, and the length and a sum of the bytes of the set-up written
 // out; then how many pairs of objects the account has of which the first holds the matter of the second.
 ghost use Prim.Native.Nat.{_≤_};
+use answers::Answers;
+use answers::Outcome;
+use answers::SetupOutcome;
+use answers::WriteOutcome;
 use libc::STDIN_FILENO;
 use libc::STDOUT_FILENO;
 use matter::Ledger;
-use state::Answers;
 use state::Facility;
-use state::Outcome;
-use state::SetupOutcome;
-use state::WriteOutcome;
 
 fn show(n: u64, last: u8) {
     io::print_decimal(STDOUT_FILENO, n);
@@ -26,7 +26,7 @@ fn show_block(f: Facility, bytes: &[u8], out: &mut [u8]) {
     io::write_all(STDOUT_FILENO, &out[..n]);
 }
 
-fn show_refused(number: u8, index: u8) {
+fn show_refused(number: u8, index: u16) {
     let mut out = io::buffer();
     let n = lines::put_setup(&mut out, number, index);
     io::write_all(STDOUT_FILENO, &out[..n]);
@@ -61,7 +61,7 @@ fn agreed(start: Facility, bytes: &[u8]) -> u64 {
     let mut count: u64 = 0;
     let mut i: usize = 0;
     while 4 <= n - i {
-        let c = calls::call_at(bytes, i);
+        let c = history::call_at(bytes, i);
         i += 4;
         let foretold = calls::query(f, c);
         let enforced = calls::enforce(f, c);
@@ -224,8 +224,8 @@ fn accepted(f: Facility, setup: &[u8], bytes: &[u8]) {
     write_with_room(f, setup);
     let mut out = io::large_buffer();
     show_block(f, bytes, &mut out);
-    show_state(calls::replay(setup, bytes), agreed(f, bytes));
-    show_matter(calls::account(setup, bytes));
+    show_state(history::replay(setup, bytes), agreed(f, bytes));
+    show_matter(history::account(setup, bytes));
 }
 
 fn one(setup: &[u8], bytes: &[u8]) {

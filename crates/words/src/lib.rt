@@ -1,24 +1,151 @@
-// A run in words.
+// A run in words. Words stand in tables, a row for each, with blanks behind them; texts with numbers in them are patterns
+// (specs/Patterns.antt). What does not fit into the lent buffer is cut off.
+ghost use Prim.Native.Nat.{_+_, _*_, _≤_, min};
+ghost use mathlib.Core.List.{[], _∷_};
 ghost use mathlib.Core.Path.{_≡_};
+ghost use lib.ListN.{length};
 ghost use Rattle.io.specs.Counts.{Counts};
 ghost use Rattle.rules.specs.Calls.{after};
+ghost use Rattle.rules.specs.Requests.{actionOf};
 ghost use Rattle.text.specs.Stored.{Stored};
-ghost use Rattle.words.specs.Sentences.{answerText, answersText, createText, inText, levelWord, liveText, objectState, objectText};
-ghost use Rattle.words.specs.Sentences.{outcomeText, pairText, processText, runningText, sentence, sentenceText, setupSentence};
-ghost use Rattle.words.specs.Sentences.{targetText, whatText, whoText};
-use rules::Request;
+ghost use Rattle.words.specs.Patterns.{filled, said, signs};
+ghost use Rattle.words.specs.Sentences.{beforeText, createText, objectText, outcomeText, processText, sentence, sentenceText, setupSentence};
+ghost use Rattle.words.specs.Sentences.{targetText};
+ghost use Rattle.words.specs.Tables.{sizeIn, wordAt};
+ghost use Rattle.words.specs.Words.{answerWord, kindWord, levelWord, numberWord, requestWord};
+use answers::Outcome;
+use rules::Action;
 use rules::View;
-use state::Answer;
-use state::Answers;
 use state::Call;
 use state::Facility;
-use state::Object;
-use state::Outcome;
-use state::Process;
-use state::User;
+
+// How many bytes a buffer for lines has. An array and not a slice: a function that hands it on is then checked in two thirds of the time.
+pub const BUFFER: usize = 65536;
+
+fn least(a: usize, b: usize) -> usize
+    ensures { λ r. ⌜ r ≡ min a b ⌝ }
+{
+    if a < b { a } else { b }
+}
+
+// How many bytes of a row are left without the blanks behind them.
+fn size(row: &[u8]) -> usize
+    ensures { λ r. ⌜ r ≡ sizeIn (now (row .entry)) (length (now (row .entry))) ⌝ }
+{
+    let mut n = row.len();
+    while 0 < n {
+        if row[n - 1] != b' ' {
+            return n;
+        }
+        n -= 1;
+    }
+    0
+}
+
+// The word of a number in a table of rows of one width; the last row is for numbers past the others.
+fn put_word(
+    out: &mut [u8; BUFFER],
+    place: usize,
+    table: &[u8],
+    width: usize,
+    last: usize,
+    n: u8,
+) -> usize
+    requires { ⌜ (last * width) + width ≤ length (now table) ⌝ }
+    ensures { λ r. ⌜ Stored (now (out .entry)) place (wordAt (now (table .entry)) width (min n last)) (now (out .exit)) r ⌝ }
+{
+    let from = least(n as usize, last) * width;
+    let row = &table[from..from + width];
+    let size = size(row);
+    text::put_text(out, place, &row[..size])
+}
+
+// The word for a kind of object.
+fn put_kind(out: &mut [u8; BUFFER], place: usize, kind: u8) -> usize
+    ensures { λ r. ⌜ Stored (now (out .entry)) place (kindWord kind) (now (out .exit)) r ⌝ }
+{
+    let words = b"\
+        file        \
+        directory   \
+        channel     \
+        control data\
+        no kind     ";
+    put_word(out, place, words, 12, 4, kind)
+}
+
+// The word for an answer.
+fn put_answer(out: &mut [u8; BUFFER], place: usize, answer: u8) -> usize
+    ensures { λ r. ⌜ Stored (now (out .entry)) place (answerWord answer) (now (out .exit)) r ⌝ }
+{
+    let words = b"\
+        not cared  \
+        granted    \
+        not granted\
+        undefined  \
+        no answer  ";
+    put_word(out, place, words, 11, 4, answer)
+}
+
+// The word for a request.
+fn put_request(out: &mut [u8; BUFFER], place: usize, request: u8) -> usize
+    ensures { λ r. ⌜ Stored (now (out .entry)) place (requestWord request) (now (out .exit)) r ⌝ }
+{
+    let words = b"\
+        alter                  \
+        change-owner           \
+        clone                  \
+        close                  \
+        create                 \
+        delete                 \
+        delete-data            \
+        execute                \
+        get-permissions-data   \
+        get-status-data        \
+        modify-access-data     \
+        modify-permissions-data\
+        read                   \
+        read-open              \
+        read&write-open        \
+        search                 \
+        send-signal            \
+        set-level              \
+        terminate              \
+        write                  \
+        write-open             \
+        login                  \
+        no request             ";
+    put_word(out, place, words, 23, 22, request)
+}
+
+// What a number says.
+fn put_number(out: &mut [u8; BUFFER], place: usize, number: u8) -> usize
+    ensures { λ r. ⌜ Stored (now (out .entry)) place (numberWord number) (now (out .exit)) r ⌝ }
+{
+    let words = b"\
+        accepted                       \
+        no such request                \
+        no such process number         \
+        process does not run           \
+        process number is not free     \
+        no such user                   \
+        object is not live             \
+        object's kind lacks the request\
+        no such kind                   \
+        object is not open in that mode\
+        128 objects are entered        \
+        no such level                  \
+        not granted                    \
+        undefined                      \
+        length is not allowed          \
+        kind does not fit the place    \
+        too many users or objects      \
+        a byte is not allowed          \
+        no number                      ";
+    put_word(out, place, words, 31, 18, number)
+}
 
 // An object's level, or that it is unset.
-fn put_level(out: &mut [u8], place: usize, level: u8) -> usize
+fn put_level(out: &mut [u8; BUFFER], place: usize, level: u8) -> usize
     ensures { λ r. ⌜ Stored (now (out .entry)) place (levelWord level) (now (out .exit)) r ⌝ }
 {
     if level == 255 {
@@ -27,156 +154,154 @@ fn put_level(out: &mut [u8], place: usize, level: u8) -> usize
     text::put_small(out, place, level)
 }
 
-// A word with a number behind it.
-fn put_pair(out: &mut [u8], place: usize, word: &[u8], n: u8) -> usize
-    ensures { λ x. ⌜ Stored (now (out .entry)) place (pairText (now (word .entry)) n) (now (out .exit)) x ⌝ }
+// A byte of a pattern: a sign is the number n, said in the sign's way.
+fn put_said(out: &mut [u8; BUFFER], place: usize, x: u8, n: u8) -> usize
+    ensures { λ r. ⌜ Stored (now (out .entry)) place (said x n) (now (out .exit)) r ⌝ }
 {
-    let p1 = text::put_text(out, place, word);
-    text::put_small(out, p1, n)
+    match x {
+        b'#' => text::put_small(out, place, n),
+        b'$' => put_level(out, place, n),
+        b'%' => put_kind(out, place, n),
+        b'&' => put_request(out, place, n),
+        b'\'' => put_answer(out, place, n),
+        b'!' => put_number(out, place, n),
+        _ => text::put_text(out, place, &[x]),
+    }
 }
 
-// A process that runs: owner with the clearance, current level and marks.
-fn put_running(out: &mut [u8], place: usize, r: Process, u: User) -> usize
-    ensures { λ x. ⌜ Stored (now (out .entry)) place (runningText r u) (now (out .exit)) x ⌝ }
+// How many numbers a byte of a pattern takes.
+fn signs(x: u8) -> usize
+    ensures { λ r. ⌜ r ≡ signs x ⌝ }
 {
-    let p1 = put_pair(out, place, b"user ", r.owner);
-    let p2 = put_pair(out, p1, b", clearance ", u.clearance.level);
-    let p3 = put_pair(out, p2, b", current ", r.current.level);
-    let p4 = put_pair(out, p3, b", marks ", r.readmark.level);
-    put_pair(out, p4, b" to ", r.writemark.level)
+    if x == b'!' {
+        return 1;
+    }
+    if x > 34 {
+        if x < 40 {
+            return 1;
+        }
+    }
+    0
 }
 
-fn put_process(out: &mut [u8], place: usize, r: Process, u: User) -> usize
-    ensures { λ x. ⌜ Stored (now (out .entry)) place (processText r u) (now (out .exit)) x ⌝ }
+// A pattern with its signs filled by numbers. The empty text is stored first, since its end is within the buffer.
+fn put_filled(out: &mut [u8; BUFFER], place: usize, pattern: &[u8], numbers: &[u8]) -> usize
+    ensures { λ r. ⌜ Stored (now (out .entry)) place (filled (now (pattern .entry)) (now (numbers .entry))) (now (out .exit)) r ⌝ }
 {
-    if r.running == 1 {
-        return put_running(out, place, r, u);
+    let mut p = text::put_text(out, place, b"");
+    let mut i: usize = 0;
+    let mut j: usize = 0;
+    while j < pattern.len() {
+        let x = pattern[j];
+        let n = state::at(numbers, i);
+        p = put_said(out, p, x, n);
+        i += signs(x);
+        j += 1;
+    }
+    p
+}
+
+// A pattern with one number in it.
+fn put_one(out: &mut [u8; BUFFER], place: usize, pattern: &[u8], n: u8) -> usize
+    ensures { λ r. ⌜ Stored (now (out .entry)) place (filled (now (pattern .entry)) (n ∷ [])) (now (out .exit)) r ⌝ }
+{
+    put_filled(out, place, pattern, &[n])
+}
+
+// The calling process: its owner with the clearance, its current level and its marks.
+fn put_process(out: &mut [u8; BUFFER], place: usize, v: View) -> usize
+    ensures { λ x. ⌜ Stored (now (out .entry)) place (processText (v .caller) (v .owner)) (now (out .exit)) x ⌝ }
+{
+    if v.caller.running == 1 {
+        let numbers = [
+            v.caller.owner,
+            v.owner.clearance.level,
+            v.caller.current.level,
+            v.caller.readmark.level,
+            v.caller.writemark.level,
+        ];
+        return put_filled(
+            out,
+            place,
+            b"user #, clearance #, current #, marks # to #",
+            &numbers,
+        );
     }
     text::put_text(out, place, b"not running")
 }
 
-// Kind and level of a live object.
-fn put_live(out: &mut [u8], place: usize, o: Object) -> usize
-    ensures { λ x. ⌜ Stored (now (out .entry)) place (liveText o) (now (out .exit)) x ⌝ }
+// The object: its number, and its kind and level where it is live.
+fn put_object(out: &mut [u8; BUFFER], place: usize, c: Call, v: View) -> usize
+    ensures { λ x. ⌜ Stored (now (out .entry)) place (objectText (c .target) (v .target .object)) (now (out .exit)) x ⌝ }
 {
-    let p1 = text::put_text(out, place, b" (");
-    let p2 = names::put_kind(out, p1, o.kind);
-    let p3 = text::put_text(out, p2, b", level ");
-    let p4 = put_level(out, p3, o.label.level);
-    text::put_text(out, p4, b")")
-}
-
-fn put_state(out: &mut [u8], place: usize, o: Object) -> usize
-    ensures { λ x. ⌜ Stored (now (out .entry)) place (objectState o) (now (out .exit)) x ⌝ }
-{
-    if o.live == 1 {
-        return put_live(out, place, o);
+    if v.target.object.live == 1 {
+        let numbers = [c.target, v.target.object.kind, v.target.object.label.level];
+        return put_filled(out, place, b" object # (%, level $)", &numbers);
     }
-    text::put_text(out, place, b" (not live)")
+    put_one(out, place, b" object # (not live)", c.target)
 }
 
-fn put_object(out: &mut [u8], place: usize, t: u8, o: Object) -> usize
-    ensures { λ x. ⌜ Stored (now (out .entry)) place (objectText t o) (now (out .exit)) x ⌝ }
+// What a create makes, and in which directory.
+fn put_create(out: &mut [u8; BUFFER], place: usize, c: Call, v: View) -> usize
+    ensures { λ x. ⌜ Stored (now (out .entry)) place (createText c (v .target .object)) (now (out .exit)) x ⌝ }
 {
-    let p1 = put_pair(out, place, b" object ", t);
-    put_state(out, p1, o)
-}
-
-// The directory of a create.
-fn put_in(out: &mut [u8], place: usize, e: u8, t: u8, o: Object) -> usize
-    ensures { λ x. ⌜ Stored (now (out .entry)) place (inText e t o) (now (out .exit)) x ⌝ }
-{
-    if decide::in_directory(e) {
-        let p1 = text::put_text(out, place, b" in");
-        return put_object(out, p1, t, o);
+    if requests::in_directory(c.extra) {
+        let p = put_one(out, place, b" % in", c.extra);
+        return put_object(out, p, c, v);
     }
-    text::put_text(out, place, b"")
+    put_one(out, place, b" %", c.extra)
 }
 
-fn put_create(out: &mut [u8], place: usize, e: u8, t: u8, o: Object) -> usize
-    ensures { λ x. ⌜ Stored (now (out .entry)) place (createText e t o) (now (out .exit)) x ⌝ }
+// What the request is about.
+fn put_target(out: &mut [u8; BUFFER], place: usize, c: Call, v: View) -> usize
+    ensures { λ x. ⌜ Stored (now (out .entry)) place (targetText (actionOf (c .request)) c (v .target .object)) (now (out .exit)) x ⌝ }
 {
-    let p1 = text::put_text(out, place, b" ");
-    let p2 = names::put_kind(out, p1, e);
-    put_in(out, p2, e, t, o)
-}
-
-// What a request is about.
-fn put_target(out: &mut [u8], place: usize, k: Request, c: Call, o: Object) -> usize
-    ensures { λ x. ⌜ Stored (now (out .entry)) place (targetText k c o) (now (out .exit)) x ⌝ }
-{
+    let process = b" process #";
+    let k = requests::action_of(c.request);
     match k {
-        Request::Login => put_pair(out, place, b" user ", c.extra),
-        Request::Clone => put_pair(out, place, b" process ", c.target),
-        Request::SendSignal => put_pair(out, place, b" process ", c.target),
-        Request::SetLevel => put_pair(out, place, b" level ", c.extra),
-        Request::Terminate => text::put_text(out, place, b""),
-        Request::Create => put_create(out, place, c.extra, c.target, o),
-        Request::OnObject => put_object(out, place, c.target, o),
-        Request::Unknown => put_pair(out, place, b" number ", c.request),
+        Action::Login => put_one(out, place, b" user #", c.extra),
+        Action::Clone => put_one(out, place, process, c.target),
+        Action::SendSignal => put_one(out, place, process, c.target),
+        Action::SetLevel => put_one(out, place, b" level #", c.extra),
+        Action::Terminate => put_one(out, place, b"", 0),
+        Action::Create => put_create(out, place, c, v),
+        Action::OnObject => put_object(out, place, c, v),
+        Action::Unknown => put_one(out, place, b" number #", c.request),
     }
 }
 
-// Who calls.
-fn put_who(out: &mut [u8], place: usize, index: u64, c: Call, v: View) -> usize
-    ensures { λ x. ⌜ Stored (now (out .entry)) place (whoText index c v) (now (out .exit)) x ⌝ }
+// The call's index, the process before it, and the request.
+fn put_before(out: &mut [u8; BUFFER], place: usize, index: u64, c: Call, v: View) -> usize
+    ensures { λ x. ⌜ Stored (now (out .entry)) place (beforeText index c v) (now (out .exit)) x ⌝ }
 {
-    let caller = v.caller;
-    let owner = v.owner;
-    let p1 = text::put_decimal(out, place, index);
-    let p2 = put_pair(out, p1, b" process ", c.process);
-    let p3 = text::put_text(out, p2, b" (");
-    let p4 = put_process(out, p3, caller, owner);
-    text::put_text(out, p4, b"): ")
+    let mut p = text::put_decimal(out, place, index);
+    p = put_one(out, p, b" process # (", c.process);
+    p = put_process(out, p, v);
+    put_one(out, p, b"): &", c.request)
 }
 
-// And what for.
-fn put_what(out: &mut [u8], place: usize, index: u64, c: Call, v: View) -> usize
-    ensures { λ x. ⌜ Stored (now (out .entry)) place (whatText index c v) (now (out .exit)) x ⌝ }
+// What the modules answer, and the number with what it says.
+fn put_outcome(out: &mut [u8; BUFFER], place: usize, o: Outcome) -> usize
+    ensures { λ x. ⌜ Stored (now (out .entry)) place (outcomeText o) (now (out .exit)) x ⌝ }
 {
-    let object = v.object;
-    let k = decide::request_of(c.request);
-    let p1 = put_who(out, place, index, c, v);
-    let p2 = names::put_request(out, p1, c.request);
-    put_target(out, p2, k, c, object)
-}
-
-// A word with an answer behind it.
-fn put_named(out: &mut [u8], place: usize, word: &[u8], a: Answer) -> usize
-    ensures { λ x. ⌜ Stored (now (out .entry)) place (answerText (now (word .entry)) a) (now (out .exit)) x ⌝ }
-{
-    let n = a.code();
-    let p1 = text::put_text(out, place, word);
-    names::put_answer(out, p1, n)
-}
-
-fn put_answers(out: &mut [u8], place: usize, a: Answers) -> usize
-    ensures { λ x. ⌜ Stored (now (out .entry)) place (answersText a) (now (out .exit)) x ⌝ }
-{
+    let n = o.number();
+    let a = o.answers();
     let mac = a.mac;
     let fc = a.fc;
     let sim = a.sim;
     let combined = a.combined;
-    let p1 = put_named(out, place, b": MAC ", mac);
-    let p2 = put_named(out, p1, b", FC ", fc);
-    let p3 = put_named(out, p2, b", SIM ", sim);
-    put_named(out, p3, b", combined ", combined)
-}
-
-// What the modules answer, and the number.
-fn put_outcome(out: &mut [u8], place: usize, o: Outcome) -> usize
-    ensures { λ x. ⌜ Stored (now (out .entry)) place (outcomeText o) (now (out .exit)) x ⌝ }
-{
-    let n = o.number();
-    let p1 = put_answers(out, place, o.answers());
-    let p2 = put_pair(out, p1, b": ", n);
-    let p3 = text::put_text(out, p2, b" ");
-    names::put_number(out, p3, n)
+    let numbers = [mac.code(), fc.code(), sim.code(), combined.code(), n, n];
+    put_filled(
+        out,
+        place,
+        b": MAC ', FC ', SIM ', combined ': # !; then ",
+        &numbers,
+    )
 }
 
 // The line of a call by what it looked at, its outcome, and what it would look at after it.
 fn put_sentence(
-    out: &mut [u8],
+    out: &mut [u8; BUFFER],
     place: usize,
     index: u64,
     c: Call,
@@ -186,44 +311,34 @@ fn put_sentence(
 ) -> usize
     ensures { λ x. ⌜ Stored (now (out .entry)) place (sentenceText index c v o w) (now (out .exit)) x ⌝ }
 {
-    let caller = w.caller;
-    let owner = w.owner;
-    let p1 = put_what(out, place, index, c, v);
-    let p2 = put_outcome(out, p1, o);
-    let p3 = text::put_text(out, p2, b"; then ");
-    let p4 = put_process(out, p3, caller, owner);
-    text::put_text(out, p4, b"\n")
+    let mut p = put_before(out, place, index, c, v);
+    p = put_target(out, p, c, v);
+    p = put_outcome(out, p, o);
+    p = put_process(out, p, w);
+    text::put_text(out, p, b"\n")
 }
 
-// A call that was told: the facility after it, and how many bytes its line has.
-pub struct Told {
-    pub facility: Facility,
-    pub length: usize,
-}
-
-// Enforces a call and stores its line.
-pub fn tell(f: Facility, index: u64, c: Call, out: &mut [u8]) -> Told
-    ensures { λ r. ⌜ Stored (now (out .entry)) 0 (sentence index f c) (now (out .exit)) (r .length) ⌝ }
-    ensures { λ r. ⌜ r .facility ≡ after f c ⌝ }
-    ensures { λ r. ⌜ Counts (r .length) (now (out .exit)) ⌝ }
+// Enforces a call, stores its line, and answers the facility after it. The place is moved behind the line.
+pub fn tell(f: Facility, index: u64, c: Call, out: &mut [u8; BUFFER], place: &mut usize) -> Facility
+    ensures { λ r. ⌜ r ≡ after f c ⌝ }
+    ensures { λ r. ⌜ Stored (now (out .entry)) (now (place .entry)) (sentence index f c) (now (out .exit)) (now (place .exit)) ⌝ }
+    ensures { λ r. ⌜ Counts (now (place .exit)) (now (out .exit)) ⌝ }
 {
     let v = calls::view_of(f, c);
     let enforced = calls::enforce(f, c);
     let facility = enforced.facility;
     let outcome = enforced.outcome;
     let w = calls::view_of(facility, c);
-    let length = put_sentence(out, 0, index, c, v, outcome, w);
-    Told { facility, length }
+    *place = put_sentence(out, *place, index, c, v, outcome, w);
+    facility
 }
 
 // A refused set-up.
-pub fn put_setup(out: &mut [u8], number: u8, index: u8) -> usize
+pub fn put_setup(out: &mut [u8; BUFFER], number: u8, index: u64) -> usize
     ensures { λ r. ⌜ Stored (now (out .entry)) 0 (setupSentence number index) (now (out .exit)) r ⌝ }
     ensures { λ r. ⌜ Counts r (now (out .exit)) ⌝ }
 {
-    let p1 = put_pair(out, 0, b"set-up refused at record ", index);
-    let p2 = put_pair(out, p1, b": ", number);
-    let p3 = text::put_text(out, p2, b" ");
-    let p4 = names::put_number(out, p3, number);
-    text::put_text(out, p4, b"\n")
+    let mut p = text::put_text(out, 0, b"set-up refused at record ");
+    p = text::put_decimal(out, p, index);
+    put_filled(out, p, b": # !\n", &[number, number])
 }

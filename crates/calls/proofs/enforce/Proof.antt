@@ -1,30 +1,23 @@
+-- The outcome is that of query, and the facility the one after what the call changes.
+use mathlib.Core.Path.{_∙_, ap}
+use Rattle.state.specs.State.{changed}
+use Rattle.calls.specs.Laws.Calls.{enforced-outcome, enforced-facility}
+use borrow.Author.Needs.{needs}
 use Rattle.calls.proofs.enforce.Statement.{statement}
 use Rattle.calls.proofs.enforce.Tie as tie
-use mathlib.Core.Path.{_∙_}
-use borrow.Author.Needs.{needs}
-use Rattle.calls.specs.Parts.{enforced-outcome, enforced-facility}
-
-view-of-requires : tie.Need-view-of-requires
-view-of-requires c κs = search needs
-
-outcome-in-requires : tie.Need-outcome-in-requires
-outcome-in-requires c κs = search needs
-
-number-requires : tie.Need-number-requires
-number-requires c κs = search needs
-
-after-number-requires : tie.Need-after-number-requires
-after-number-requires c κs = search needs
 
 returns : tie.Need-returns
-returns c = let a = c .before .before .before .before .args in
-    let o = enforced-outcome (a .f) (a .c) _ _ (c .before .before .outcome-in .ensures) (c .before .before .before .view-of .ensures) in
+returns c =
+    let x = c .before .before .before in
+    let a = x .before .before .args in
+    let v = x .before .view-of .ensures in
+    let o = enforced-outcome (a .f) (a .c) _ _ (x .outcome-in .ensures) v in
     λ i. record {
-      facility = (c .after-number .ensures ∙ enforced-facility (a .f) (a .c) _ _ _ (c .before .number .ensures) o (c .before .before .before .view-of .ensures)) i;
+      facility = (c .changed .ensures ∙ ap (changed (a .f)) (c .before .change-by .ensures)
+          ∙ enforced-facility (a .f) (a .c) _ _ _ (c .before .before .number .ensures) o v) i;
       outcome = o i;
     }
 
 pub enforce-spec : {M : Type 1} → statement M
 enforce-spec =
-    tie.close
-    (tie.spec view-of-requires outcome-in-requires number-requires after-number-requires returns)
+    tie.close (tie.spec (λ c κs. search needs) (λ c κs. search needs) (λ c κs. search needs) (λ c κs. search needs) (λ c κs. search needs) returns)

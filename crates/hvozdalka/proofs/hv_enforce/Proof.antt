@@ -1,3 +1,4 @@
+-- The result is `enforcedNumbers (enforce f (callOf request process target extra))`.
 use Rattle.hvozdalka.proofs.hv_enforce.Statement.{statement}
 use Rattle.hvozdalka.proofs.hv_enforce.Tie as tie
 use Rattle.rules.specs.declared.Enforced.{Enforced}
@@ -5,16 +6,10 @@ use mathlib.Core.Path.{_∙_, ap}
 use borrow.Author.Needs.{needs}
 use Rattle.hvozdalka.specs.Numbers.{outcomeNumbers}
 
-enforce-requires : tie.Need-enforce-requires
-enforce-requires c κs = search needs
-
-outcome-numbers-requires : tie.Need-outcome-numbers-requires
-outcome-numbers-requires c κs = search needs
-
 returns : tie.Need-returns
 returns c =
     let e = c .before .before .enforce .ensures in
     λ i. record { facility = e i .facility; outcome = (c .outcome-numbers .ensures ∙ ap (λ (x : Enforced). outcomeNumbers (x .outcome)) e) i }
 
 pub hv-enforce-spec : {M : Type 1} → statement M
-hv-enforce-spec = tie.close (tie.spec enforce-requires outcome-numbers-requires returns)
+hv-enforce-spec = tie.close (tie.spec (λ c κs. search needs) (λ c κs. search needs) returns)

@@ -5,32 +5,23 @@ use Prim.Native.Nat.{ℕ}
 use mathlib.Core.Path.{_∙_, ap}
 use borrow.Author.Needs.{needs}
 use Rattle.in_place.specs.Layout.{facilityAt}
-use Rattle.state.specs.State.{addModes, putMarks}
-
-opens-in-requires : tie.Need-opens-in-requires
-opens-in-requires c κs = search needs
-
-add-modes-requires : tie.Need-add-modes-requires
-add-modes-requires c κs = search needs
-
-put-marks-requires : tie.Need-put-marks-requires
-put-marks-requires c κs = search needs
-
-same-length : tie.Need-same-length
-same-length c = search needs
+use Rattle.opens.specs.Opens.{addModes}
+use Rattle.state.specs.State.{putMarks}
 
 returns : tie.Need-returns
 returns c =
-    let a = c .before .before .before .before .before .before .before .before .args in
+    let c3 = c .before .before .before in
+    let c5 = c3 .before .before in
+    let c8 = c5 .before .before .before in
+    let a = c8 .args in
     let f = facilityAt (a .s .now) in (
       c .before .before .put-marks .ensures .0
           ∙ ap (λ (x : ℕ). putMarks f (a .p) (a .t) x)
-          (c .before .before .before .add-modes .ensures ∙ ap (λ (x : ℕ). addModes x (a .modes))
-          (c .before .before .before .before .before .opens-in .ensures)),
+          (c3 .add-modes .ensures ∙ ap (λ (x : ℕ). addModes x (a .modes))
+          (c5 .opens-in .ensures)),
       c .before .before .put-marks .ensures .1,
     )
 
 pub add-open-spec : {M : Type 1} → statement M
 add-open-spec =
-    tie.close
-    (tie.spec opens-in-requires add-modes-requires put-marks-requires same-length returns)
+    tie.close (tie.spec (λ c κs. search needs) (λ c κs. search needs) (λ c κs. search needs) (λ c. search needs) returns)

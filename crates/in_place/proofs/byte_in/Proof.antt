@@ -1,4 +1,5 @@
-use Rattle.in_place.specs.Layout.{byte-in, byte-past}
+-- The result is `at (part s from n) i`.
+use Rattle.in_place.specs.Laws.Layout.{byte-in, byte-past}
 use borrow.Author.Needs.{needs}
 use Rattle.in_place.proofs.byte_in.Statement.{statement}
 use Rattle.in_place.proofs.byte_in.Tie as tie
@@ -8,14 +9,8 @@ use Rattle.in_place.proofs.byte_in.Lts as lts
 returns : tie.Need-returns
 returns c = let a = c .before .args in byte-past (a .s .now) (a .from) (a .n) (a .i) (c .if1 .taken)
 
-add-result : tie.Need-add-result
-add-result c = search needs
-
-shared-slice-read-result : tie.Need-shared-slice-read-result
-shared-slice-read-result c = search needs
-
 returns-2 : tie.Need-returns-2
 returns-2 c = let a = c .before .before .args in byte-in (a .s .now) (a .from) (a .n) (a .i) (search (needs, c .before .if1 .left))
 
 pub byte-in-spec : {M : Type 1} → statement M
-byte-in-spec = tie.close (tie.spec returns add-result shared-slice-read-result returns-2)
+byte-in-spec = tie.close (tie.spec returns (λ c. search needs) (λ c. search needs) returns-2)

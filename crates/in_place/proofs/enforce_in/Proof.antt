@@ -1,3 +1,4 @@
+-- The result is `query f c`, and the bytes become those of `after f c`.
 use Rattle.in_place.proofs.enforce_in.Statement.{statement}
 use Rattle.in_place.proofs.enforce_in.Tie as tie
 use borrow.Author.Needs.{needs}

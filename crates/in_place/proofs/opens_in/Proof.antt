@@ -4,7 +4,7 @@ use mathlib.Core.Path.{_∙_, ap}
 use borrow.Author.Needs.{needs}
 use Rattle.in_place.specs.Layout.{facilityAt}
 use Rattle.state.specs.State.{opensOf}
-use Rattle.state.specs.Tests.{at}
+use Rattle.labels.specs.Decisions.{at}
 use Rattle.in_place.proofs.opens_in.Statement.{statement}
 use Rattle.in_place.proofs.opens_in.Tie as tie
 

@@ -3,19 +3,21 @@ use Prim.Native.Nat.{ℕ}
 use mathlib.Core.Path.{_∙_, ap}
 use lib.ListN.{set}
 use borrow.Author.Needs.{needs}
-use Rattle.in_place.specs.Changes.{opens-step, opens-first}
+use Rattle.in_place.specs.Laws.Changes.{opens-step, opens-first}
 use Rattle.in_place.specs.Layout.{facilityAt}
-use Rattle.in_place.specs.Stores.{padding-marks}
+use Rattle.in_place.specs.Laws.Stores.{padding-marks}
 use Rattle.state.specs.State.{putOpens}
 use Rattle.in_place.proofs.put_marks.Statement.{statement}
 use Rattle.in_place.proofs.put_marks.Tie as tie
 
 returns : tie.Need-returns
 returns c =
-    let a = c .before .before .before .before .before .before .args in
+    let c3 = c .before .before .before in
+    let c6 = c3 .before .before .before in
+    let a = c6 .args in
     let m = c .before .before .put-in .ensures in (
       opens-step (a .s .now) _ (facilityAt (a .s .now)) (facilityAt (a .s .now) .opens) _ (a .v) (opens-first (a .s .now)) m
-          ∙ ap (λ (n : ℕ). putOpens (facilityAt (a .s .now)) (set (facilityAt (a .s .now) .opens) n (a .v))) (c .before .before .before .mark-place .ensures),
+          ∙ ap (λ (n : ℕ). putOpens (facilityAt (a .s .now)) (set (facilityAt (a .s .now) .opens) n (a .v))) (c3 .mark-place .ensures),
       padding-marks (a .s .now) _ _ _ m,
     )
 

@@ -2,7 +2,7 @@
 use mathlib.Core.Path.{refl, _∙_}
 use borrow.Author.Needs.{needs}
 use Rattle.in_place.specs.Layout.{fieldOf, theLives, theKinds, theLevels, theCategories, theDatatypes}
-use Rattle.in_place.specs.Stores.{stored}
+use Rattle.in_place.specs.Laws.Stores.{stored}
 use Rattle.in_place.proofs.put_object.Statement.{statement}
 use Rattle.in_place.proofs.put_object.Tie as tie
 

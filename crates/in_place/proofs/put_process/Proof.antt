@@ -1,9 +1,9 @@
 -- Six bytes of a process are stored, one after the other.
 use mathlib.Core.Path.{refl, _∙_}
 use borrow.Author.Needs.{needs}
-use Rattle.in_place.specs.Changes.{process-stored}
+use Rattle.in_place.specs.Laws.Changes.{process-stored}
 use Rattle.in_place.specs.Layout.{fieldOf, theRunnings, theOwners, theCurrents, theReadmarks, theWritemarks, theAutomatics}
-use Rattle.in_place.specs.Stores.{stored, padding-fields}
+use Rattle.in_place.specs.Laws.Stores.{stored, padding-fields}
 use Rattle.in_place.proofs.put_process.Statement.{statement}
 use Rattle.in_place.proofs.put_process.Tie as tie
 
@@ -38,4 +38,5 @@ returns c =
 pub put-process-spec : {M : Type 1} → statement M
 put-process-spec =
     tie.close
-    (tie.spec (λ c κs. search needs) (λ c κs. search needs) (λ c κs. search needs) (λ c κs. search needs) (λ c κs. search needs) (λ c κs. search needs) same-length returns)
+    (tie.spec (λ c κs. search needs) (λ c κs. search needs) (λ c κs. search needs) (λ c κs. search needs) (λ c κs. search needs) (λ c κs. search needs)
+    same-length returns)

@@ -2,7 +2,7 @@
 use native.Mathlib.Omega.{arith}
 use borrow.Author.Needs.{needs}
 use Rattle.in_place.specs.Layout.{theRunnings, theOwners, theCurrents, theReadmarks, theWritemarks, theAutomatics}
-use Rattle.in_place.specs.Whole.{fields-of, field-stored}
+use Rattle.in_place.specs.Laws.Fields.{fields-of, field-stored}
 use Rattle.in_place.proofs.put_processes.Statement.{statement}
 use Rattle.in_place.proofs.put_processes.Tie as tie
 

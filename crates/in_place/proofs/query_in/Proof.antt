@@ -1,3 +1,4 @@
+-- The result is `query f c`.
 use Rattle.in_place.proofs.query_in.Statement.{statement}
 use Rattle.in_place.proofs.query_in.Tie as tie
 use borrow.Author.Needs.{needs}

@@ -3,8 +3,8 @@ use Prim.Native.Nat.{ℕ}
 use mathlib.Core.Path.{_≡_, sym, _∙_}
 use lib.ListN.{length}
 use borrow.Author.Needs.{needs, length-unmapped}
-use Rattle.in_place.specs.Whole.{stored-whole}
-use Rattle.state.specs.State.{mostOpens}
+use Rattle.in_place.specs.Laws.Fields.{stored-whole}
+use Rattle.opens.specs.Opens.{mostOpens}
 use Rattle.in_place.proofs.store.Statement.{statement}
 use Rattle.in_place.proofs.store.Tie as tie
 

@@ -4,9 +4,10 @@ use lib.ListN.{length-append}
 use native.Mathlib.Omega.{arith}
 use borrow.Author.Needs.{needs}
 use Rattle.in_place.specs.Layout.{facilityAt}
-use Rattle.lines.specs.Printed.{linesOf, short-most}
+use Rattle.lines.specs.Blocks.{linesOf}
+use Rattle.lines.specs.Laws.Blocks.{short-most}
 use Rattle.rules.specs.Lines.{shortLine}
-use Rattle.text.specs.Stored.{then, counts}
+use Rattle.text.specs.Laws.Stored.{then, counts}
 use Rattle.lines.proofs.put_block_in.Statement.{statement}
 use Rattle.lines.proofs.put_block_in.Tie as tie
 

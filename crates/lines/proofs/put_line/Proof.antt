@@ -1,8 +1,9 @@
 -- Three texts, one behind the other.
 use mathlib.Core.List.{[], _∷_, _++_}
 use borrow.Author.Needs.{needs}
-use Rattle.lines.specs.Texts.{outcomeText, levelPart, lineText, line-short}
-use Rattle.text.specs.Stored.{then}
+use Rattle.lines.specs.Texts.{outcomeText, levelPart, lineText}
+use Rattle.lines.specs.Laws.Texts.{line-short}
+use Rattle.text.specs.Laws.Stored.{then}
 use Rattle.lines.proofs.put_line.Statement.{statement}
 use Rattle.lines.proofs.put_line.Tie as tie
 

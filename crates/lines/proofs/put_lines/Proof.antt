@@ -7,7 +7,7 @@ use lib.ListN.{length}
 use Rattle.rules.specs.declared.Enforced.{Enforced}
 use native.Mathlib.Omega.{arith}
 use borrow.Author.Needs.{needs}
-use Rattle.lines.specs.Printed.{Left, left-begins, left-goes-on, block-none, block-done}
+use Rattle.lines.specs.Laws.Blocks.{Left, left-begins, left-goes-on, block-none, block-done}
 
 abbrev Inv-loop : tie.InvT-loop
 Inv-loop first calls out₀ n f₀ place₀ i₀ index₀ out f place i index = (i ≤ length calls) × (index ≤ first + i) × Left out₀ first f₀ calls out place index f i
@@ -29,17 +29,8 @@ loop-holds c =
 sub-loop : tie.Need-sub-loop Inv-loop μ-loop
 sub-loop c = let l = c .loop in search (needs, l .inv .0)
 
-call-at-requires : tie.Need-call-at-requires Inv-loop μ-loop
-call-at-requires c κs = search needs
-
 add-i : tie.Need-add-i Inv-loop μ-loop
 add-i c = let l = c .before .before .loop in search (needs, l .inv .0)
-
-enforce-requires : tie.Need-enforce-requires Inv-loop μ-loop
-enforce-requires c κs = search needs
-
-put-line-requires : tie.Need-put-line-requires Inv-loop μ-loop
-put-line-requires c κs = search needs
 
 add-index : tie.Need-add-index Inv-loop μ-loop
 add-index c = let l = c .before .before .loop in search (needs, l .inv .0, l .inv .1, c .before .before .before .if1 .left)
@@ -85,21 +76,5 @@ returns-2 c =
 pub put-lines-spec : {M : Type 1} → statement M
 put-lines-spec =
     tie.close
-    (tie.spec
-    Inv-loop
-    μ-loop
-    returns
-    loop-holds
-    sub-loop
-    call-at-requires
-    add-i
-    add-index
-    enforce-requires
-    (λ c. search needs)
-    (λ c κs. search needs)
-    (λ c κs. search needs)
-    put-line-requires
-    loop-less
-    loop-again
-    same-length
-    returns-2)
+    (tie.spec Inv-loop μ-loop returns loop-holds sub-loop (λ c κs. search needs) add-i add-index (λ c κs. search needs) (λ c. search needs)
+    (λ c κs. search needs) (λ c κs. search needs) (λ c κs. search needs) loop-less loop-again same-length returns-2)

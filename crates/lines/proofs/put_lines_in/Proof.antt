@@ -6,7 +6,7 @@ use native.Mathlib.Omega.{arith}
 use borrow.Author.Needs.{needs}
 use Rattle.in_place.specs.Layout.{facilityAt}
 use Rattle.in_place.specs.Stores.{padding}
-use Rattle.lines.specs.Printed.{Left, left-begins, left-goes-on, process-bytes, block-none, block-done}
+use Rattle.lines.specs.Laws.Blocks.{Left, left-begins, left-goes-on, process-bytes, block-none, block-done}
 use Rattle.lines.proofs.put_lines_in.Statement.{statement}
 use Rattle.lines.proofs.put_lines_in.Tie as tie
 
@@ -39,7 +39,8 @@ add-index c = let l = c .before .before .loop in search (needs, l .inv .0, l .in
 
 loop-less : tie.Need-loop-less Inv-loop μ-loop
 loop-less c =
-    let turn = c .before .before .before .before .before .before .before .before .before in
+    let c9 = c .before .before .before .before .before .before .before .before .before in
+    let turn = c9 in
     search (needs, turn .before .loop .inv .0, turn .loop-test .taken)
 
 loop-again : tie.Need-loop-again Inv-loop μ-loop

@@ -1,49 +1,29 @@
+-- The text `shortLine calls` is stored.
 use Rattle.lines.proofs.put_short.Statement.{statement}
 use Rattle.lines.proofs.put_short.Tie as tie
 use borrow.Author.Needs.{needs}
-use Rattle.lines.specs.Printed.{not-short, is-short}
+use Rattle.lines.specs.Laws.Blocks.{not-short, is-short}
 use Rattle.rules.specs.Lines.{shortLine}
-use Rattle.text.specs.Stored.{as-text}
-
-slice-aggregate-put-text : tie.Need-slice-aggregate-put-text
-slice-aggregate-put-text c = search needs
-
-put-text-requires : tie.Need-put-text-requires
-put-text-requires c κs = search needs
-
-same-length : tie.Need-same-length
-same-length c = search needs
+use Rattle.text.specs.Laws.Stored.{as-text}
 
 returns : tie.Need-returns
 returns c =
-    let a = c .before .before .before .before .before .before .before .before .args in
-    as-text (a .out .now) _ _ (shortLine (a .calls .now)) (a .place) _ (not-short (a .calls .now) (c .before .before .before .before .before .if1 .taken))
+    let c5 = c .before .before .before .before .before in
+    let c8 = c5 .before .before .before in
+    let a = c8 .args in
+    as-text (a .out .now) _ _ (shortLine (a .calls .now)) (a .place) _ (not-short (a .calls .now) (c5 .if1 .taken))
     (c .before .before .put-text .ensures)
-
-slice-aggregate-put-text-2 : tie.Need-slice-aggregate-put-text-2
-slice-aggregate-put-text-2 c = search needs
-
-put-text-requires-2 : tie.Need-put-text-requires-2
-put-text-requires-2 c κs = search needs
-
-same-length-2 : tie.Need-same-length-2
-same-length-2 c = search needs
 
 returns-2 : tie.Need-returns-2
 returns-2 c =
-    let a = c .before .before .before .before .before .before .before .before .args in
-    as-text (a .out .now) _ _ (shortLine (a .calls .now)) (a .place) _ (is-short (a .calls .now) (c .before .before .before .before .before .if1 .left))
+    let c5 = c .before .before .before .before .before in
+    let c8 = c5 .before .before .before in
+    let a = c8 .args in
+    as-text (a .out .now) _ _ (shortLine (a .calls .now)) (a .place) _ (is-short (a .calls .now) (c5 .if1 .left))
     (c .before .before .put-text2 .ensures)
 
 pub put-short-spec : {M : Type 1} → statement M
 put-short-spec =
     tie.close
-    (tie.spec
-    slice-aggregate-put-text
-    put-text-requires
-    same-length
-    returns
-    slice-aggregate-put-text-2
-    put-text-requires-2
-    same-length-2
+    (tie.spec (λ c. search needs) (λ c κs. search needs) (λ c. search needs) returns (λ c. search needs) (λ c κs. search needs) (λ c. search needs)
     returns-2)

@@ -1,15 +1,16 @@
 -- "Calls": what query and enforce return, what a refused call leaves, the counter, and trusted logins.
-use Rattle.state.specs.declared.Outcome.the-variants.{Accepted, Denied, Refused}
+use Rattle.answers.specs.declared.Outcome.the-variants.{Accepted, Denied, Refused}
 use Prim.Native.Nat.{ℕ}
 use mathlib.Core.Path.{_≡_, refl}
 use mathlib.Core.Bool.{true, false}
 use mathlib.Core.List.{List, [], _∷_, _++_, map}
 use lib.ListN.{replicate}
-use Rattle.state.specs.Outcomes.{denies, notCared, outcomeOf, numberOf, answersOf, objectNumberOf}
+use Rattle.answers.specs.Outcomes.{denies, notCared, outcomeOf, numberOf, answersOf, objectNumberOf}
 use Rattle.rules.specs.Types.{Granted, NotGranted, Undefined, Answers, Outcome, Call, Facility}
 use Rattle.rules.specs.Computed.{everything, call, switches, user, object, codes, processBytes, openBytes, counts}
 use Rattle.rules.specs.Setup.{fresh}
-use Rattle.rules.specs.Calls.{objectGiven, query, after, enforce, run, outcomes, trustedLogin, trustedLogins}
+use Rattle.rules.specs.Calls.{objectGiven, query, after, enforce}
+use Rattle.rules.specs.Histories.{run, outcomes, trustedLogin, trustedLogins}
 use Rattle.rules.specs.Examples.SetupRecords.{filesOfLevel0}
 
 -- a call's number, its object and its four answers

@@ -4,14 +4,13 @@ use mathlib.Core.Path.{_≡_, refl}
 use mathlib.Core.Bool.{true, false}
 use mathlib.Core.List.{List, [], _∷_, _++_, map}
 use Rattle.rules.specs.Computed.{everything, numbersBelow}
-use Rattle.rules.specs.Requests.{Request, Login, Clone, SendSignal, SetLevel, Terminate, Create, OnObject, Unknown}
-use Rattle.rules.specs.Requests.{isLogin, isClone, isSendSignal, isSetLevel, isCreate, needsObject, requestOf}
-use Rattle.rules.specs.Requests.{Class, Absent, Reads, Writes, Both, NoCondition, classOf, isAbsent, isNoCondition, observes, alters}
-use Rattle.rules.specs.Requests.{Keep, Add, Close, CloseAll, openChange}
+use Rattle.rules.specs.Requests.{Action, Login, Clone, SendSignal, SetLevel, Terminate, Create, OnObject, Unknown, isLogin, isClone, isSendSignal}
+use Rattle.rules.specs.Requests.{isSetLevel, isCreate, needsObject, actionOf, Class, Absent, Reads, Writes, Both, NoCondition, classOf, isAbsent}
+use Rattle.rules.specs.Requests.{isNoCondition, observes, alters, Keep, Add, Close, CloseAll, openChange}
 
 -- "2 clone, 4 create, 16 send-signal, 17 set-level, 18 terminate, 21 login"; the others up to 21 act on an object
 pub request-targets :
-    map requestOf (numbersBelow 23) ++ (requestOf 255 ∷ [])
+    map actionOf (numbersBelow 23) ++ (actionOf 255 ∷ [])
     ≡ OnObject ∷ OnObject ∷ Clone ∷ OnObject ∷ Create ∷ OnObject ∷ OnObject ∷ OnObject
     ∷ OnObject ∷ OnObject ∷ OnObject ∷ OnObject ∷ OnObject ∷ OnObject ∷ OnObject ∷ OnObject
     ∷ SendSignal ∷ SetLevel ∷ Terminate ∷ OnObject ∷ OnObject ∷ Login ∷ Unknown ∷ Unknown ∷ []
@@ -71,7 +70,7 @@ unfolding everything
 class-tests = refl
 
 -- the tests of what a request acts on
-abbrev requests : List Request
+abbrev requests : List Action
 requests = Login ∷ Clone ∷ SendSignal ∷ SetLevel ∷ Terminate ∷ Create ∷ OnObject ∷ Unknown ∷ []
 
 pub request-tests :

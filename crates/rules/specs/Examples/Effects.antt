@@ -3,12 +3,14 @@ use Prim.Native.Nat.{ℕ}
 use mathlib.Core.Path.{_≡_, refl}
 use mathlib.Core.List.{List, [], _∷_, _++_, map}
 use lib.ListN.{replicate}
-use Rattle.state.specs.Labels.{label}
-use Rattle.state.specs.State.{putProcess, putUser, putObject, opened, blank, closeObject, closeProcess, copyProcess}
+use Rattle.labels.specs.Labels.{label}
+use Rattle.state.specs.State.{putProcess, putUser, putObject, opened, blank}
+use Rattle.opens.specs.Opens.{closeObject, closeProcess, copyProcess}
 use Rattle.rules.specs.Types.{Call, Object, Facility}
 use Rattle.rules.specs.Computed.{everything, call, switches, user, object, processBytes, objectBytes, openBytes, counts}
 use Rattle.rules.specs.Setup.{fresh}
-use Rattle.rules.specs.Calls.{after, run}
+use Rattle.rules.specs.Calls.{after}
+use Rattle.rules.specs.Histories.{run}
 
 -- Users 0 of clearance 9 and 1 trusted of clearance 9; file 0 of level 3, file 1 of level 3, directory 2 of level 4, category security and data type
 -- security information, channel 3 of level 3, control data 4 of level 3.
@@ -63,7 +65,7 @@ file = record { live = 1; kind = 0; label = label 3; category = 0; datatype = 0 
 
 abbrev one : Facility
 one =
-    opened (opened (putProcess (putObject (putObject (putUser (blank 1 0 0)
+    opened (opened (putProcess (putObject (putObject (putUser (blank (record { mac = 1; fc = 0; sim = 0 }))
     (record { clearance = label 9; role = 0; trusted = 0 })) file) file) 0
     (record { running = 1; owner = 0; current = label 3; readmark = label 2; writemark = label 7; automatic = 0 })) 0 0 3) 0 1 1
 

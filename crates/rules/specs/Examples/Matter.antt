@@ -4,12 +4,13 @@ use mathlib.Core.Path.{_≡_, refl}
 use mathlib.Core.Bool.{Bool, true, false, cond}
 use mathlib.Core.List.{List, [], _∷_, _++_, map}
 use lib.Dec.{eqb, ltb}
-use Rattle.state.specs.Tests.{_or_}
+use Rattle.labels.specs.Decisions.{_or_}
 use Rattle.rules.specs.Types.{Call}
 use Rattle.rules.specs.Computed.{everything, call, switches, user, object, numbersBelow}
 use Rattle.rules.specs.Setup.{fresh}
 use Rattle.rules.specs.Requests.{Absent, Reads, Writes, Both, NoCondition}
-use Rattle.rules.specs.Matter.{Set, nothing, only, Account, Entry, account, start, holds, takes, gives}
+use Rattle.rules.specs.Matter.{Set, nothing, only, Account, account, start, holds, takes, gives}
+use Rattle.rules.specs.Histories.{Entry}
 
 -- an account of a directory 1 and six objects, the others files, each holding itself
 abbrev sixObjects : Account

@@ -3,14 +3,15 @@ use Prim.Native.Nat.{ℕ}
 use mathlib.Core.Path.{_≡_, refl}
 use mathlib.Core.Bool.{true, false}
 use mathlib.Core.List.{List, [], _∷_, _++_, map}
-use Rattle.state.specs.Labels.{label}
-use Rattle.state.specs.Answers.{combine, combined3, code, isNotGranted, isUndefined, grant, passes}
-use Rattle.state.specs.Outcomes.{answersOf}
+use Rattle.labels.specs.Labels.{label}
+use Rattle.answers.specs.Answers.{combine, combined3, code, isNotGranted, isUndefined, grant, passes}
+use Rattle.answers.specs.Outcomes.{answersOf}
 use Rattle.rules.specs.Types.{Answer, NotCared, Granted, NotGranted, Undefined, Call, Process, User, Object, Facility}
 use Rattle.rules.specs.Computed.{everything, codes, call, switches, user, object}
 use Rattle.rules.specs.Requests.{Class, Absent, Reads, Writes, Both, NoCondition}
 use Rattle.rules.specs.Setup.{fresh}
-use Rattle.rules.specs.Calls.{query, run}
+use Rattle.rules.specs.Calls.{query}
+use Rattle.rules.specs.Histories.{run}
 use Rattle.rules.specs.Modules.{mayRead, mayWrite, maySet, macObject, macSignal, fcRule, simRule, moveBy, setLevel}
 
 -- "Not cared 0, granted 1, not granted 2, undefined 3"

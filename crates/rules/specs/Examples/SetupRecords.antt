@@ -4,7 +4,7 @@ use mathlib.Core.Path.{_≡_, refl}
 use mathlib.Core.Bool.{true, false}
 use mathlib.Core.List.{List, [], _∷_, _++_, map}
 use lib.ListN.{replicate}
-use Rattle.state.specs.Outcomes.{setupNumber, setupIndex, writeNumber, writeLength}
+use Rattle.answers.specs.Outcomes.{setupNumber, setupIndex, writeNumber, writeLength}
 use Rattle.state.specs.State.{dropObject}
 use Rattle.rules.specs.Types.{Facility}
 use Rattle.rules.specs.Computed.{everything, switches, user, object, userBytes, objectBytes, processBytes, counts}

@@ -4,13 +4,13 @@ use mathlib.Core.Path.{_≡_, refl}
 use mathlib.Core.Bool.{true, false}
 use mathlib.Core.List.{List, [], _∷_, _++_, map}
 use lib.ListN.{replicate}
-use Rattle.state.specs.Tests.{at}
-use Rattle.state.specs.Labels.{label, leq, same, join, meet, given, lawful}
-use Rattle.state.specs.State.{processOf, objectOf, userOf, runs, live, isUser, trustedUser, labelOf, clearanceOf, isAutomatic}
-use Rattle.state.specs.State.{reading, writing, addModes, putProcess, putUser, putObject, dropObject, putRefusals}
-use Rattle.state.specs.State.{closeObject, closeProcess, copyProcess, addUser, addObject, counted}
-use Rattle.state.specs.State.{freshProcess, noProcess, blank, cloned, opened, closed, deleted, terminated}
-use Rattle.rules.specs.Types.{Process, User, Object, Facility}
+use Rattle.labels.specs.Decisions.{at}
+use Rattle.labels.specs.Labels.{label, leq, same, join, meet, given, lawful}
+use Rattle.state.specs.State.{processOf, objectOf, userOf, runs, live, isUser, trustedUser, labelOf, clearanceOf, isAutomatic, putProcess, putUser}
+use Rattle.state.specs.State.{putObject, dropObject, putRefusals, addUser, addObject, counted, allOff, freshProcess, noProcess, blank, cloned, opened}
+use Rattle.state.specs.State.{closed, deleted, terminated}
+use Rattle.opens.specs.Opens.{reading, writing, addModes, closeObject, closeProcess, copyProcess}
+use Rattle.rules.specs.Types.{Switches, Process, User, Object, Facility}
 use Rattle.rules.specs.Computed.{everything, userBytes, objectBytes, processBytes, openBytes, counts}
 
 -- levels are compared by number, the larger and the smaller of two, 255 is unset, 15 the last that a process may have
@@ -38,8 +38,11 @@ arrays f =
     ∷ f .lives ∷ f .kinds ∷ f .levels ∷ f .categories ∷ f .datatypes
     ∷ f .runnings ∷ f .owners ∷ f .currents ∷ f .readmarks ∷ f .writemarks ∷ f .automatics ∷ []
 
+abbrev mixed : Switches
+mixed = record { mac = 1; fc = 2; sim = 3 }
+
 pub blank-facility :
-    (counts (blank 1 2 3) ∷ arrays (blank 1 2 3)) ++ (blank 1 2 3 .opens ∷ [])
+    (counts (blank mixed) ∷ arrays (blank mixed)) ++ (blank mixed .opens ∷ [])
     ≡ (1 ∷ 2 ∷ 3 ∷ 0 ∷ 0 ∷ 0 ∷ [])
     ∷ replicate 16 0 ∷ replicate 16 0 ∷ replicate 16 0
     ∷ replicate 128 0 ∷ replicate 128 0 ∷ replicate 128 0 ∷ replicate 128 0 ∷ replicate 128 0
@@ -59,7 +62,7 @@ fresh-process = refl
 
 -- "at 4,294,967,295 it stays"
 pub counter-stop :
-    map (λ n. counted (putRefusals (blank 0 0 0) n) .refusals) (0 ∷ 4294967293 ∷ 4294967294 ∷ 4294967295 ∷ [])
+    map (λ n. counted (putRefusals (blank allOff) n) .refusals) (0 ∷ 4294967293 ∷ 4294967294 ∷ 4294967295 ∷ [])
     ≡ 1 ∷ 4294967294 ∷ 4294967295 ∷ 4294967295 ∷ []
 unfolding everything
 counter-stop = refl
@@ -101,7 +104,7 @@ abbrev filled : Facility
 filled =
     putRefusals
     (opened (opened (putProcess (putProcess (putObject (putObject (putUser (putUser
-    (blank 1 0 1) user0) user1) object0) object1) 0 process0) 31 process31) 0 1 3) 31 0 2)
+    (blank (record { mac = 1; fc = 0; sim = 1 })) user0) user1) object0) object1) 0 process0) 31 process31) 0 1 3) 31 0 2)
     7
 
 -- all that stands in a facility of two users, two objects, and processes 0, 1 and 31, but for the opens; and the opens
@@ -201,11 +204,11 @@ mark-places = refl
 
 -- n more users, and n more objects
 abbrev users : ℕ → Facility
-users zero = blank 0 0 0
+users zero = blank allOff
 users (suc n) = addUser (users n) user0
 
 abbrev objects : ℕ → Facility
-objects zero = blank 0 0 0
+objects zero = blank allOff
 objects (suc n) = addObject (objects n) object0
 
 -- at most 16 users and 128 objects

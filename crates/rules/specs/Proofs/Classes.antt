@@ -6,9 +6,11 @@ use mathlib.Core.Bool.{Bool, true, not}
 use lib.Dec.{leb, eqb}
 use native.Mathlib.Omega.{arith}
 use borrow.Author.Tests.{eqb-true, ne-eqb}
-use Rattle.state.specs.Tests.{_or_, at, clash, by-test, by-eq}
-use Rattle.state.specs.State.{reading, writing}
-use Rattle.rules.specs.Requests.{Create, Class, Absent, Reads, Writes, Both, NoCondition, Add, lastRequest, requestOf, files, directories, channels, controlData, listOf, classAmong, classOf, isAbsent, observes, alters, openChange}
+use Rattle.labels.specs.Decisions.{_or_, at}
+use Rattle.labels.specs.Laws.Decisions.{clash, by-test, by-eq}
+use Rattle.opens.specs.Opens.{reading, writing}
+use Rattle.rules.specs.Requests.{Create, Class, Absent, Reads, Writes, Both, NoCondition, Add, lastRequest, actionOf, files, directories, channels}
+use Rattle.rules.specs.Requests.{controlData, listOf, classAmong, classOf, isAbsent, observes, alters, openChange}
 
 -- what holds of a request's class in each column, and where there is none, holds for every kind
 pub row : (P : Class → Bool) (r : ℕ) → P Absent ≡ true → P (classOf r 0) ≡ true → P (classOf r 1) ≡ true → P (classOf r 2) ≡ true → P (classOf r 3) ≡ true
@@ -36,8 +38,8 @@ pub class-create : (k : ℕ) → not (isAbsent (classOf 4 k)) ≡ true → alter
 unfolding classOf files directories channels controlData listOf classAmong _or_
 class-create k = there alters (classOf 4 k) (row (λ x. isAbsent x or alters x) 4 refl refl refl refl refl k)
 
-pub request-create : (r : ℕ) → requestOf r ≡ Create → r ≡ 4
-unfolding requestOf
+pub request-create : (r : ℕ) → actionOf r ≡ Create → r ≡ 4
+unfolding actionOf
 request-create r e =
     by-eq r 4 (λ h. h) (λ n.
     let h4 = ne-eqb r 4 n in

@@ -7,12 +7,15 @@ use lib.Dec.{ltb, eqb}
 use native.Mathlib.Omega.{arith}
 use borrow.Author.Tests.{ltb-true, ltb-false, eqb-true}
 use Rattle.rules.specs.Types.{Call, Object, Facility}
-use Rattle.state.specs.Tests.{by-test}
-use Rattle.state.specs.Outcomes.{denies, numberOf}
-use Rattle.state.specs.State.{mostObjects, mostRefusals, putProcess, putOpens, putObject, addObject, dropObject, putRefusals, oneMore, counted}
-use Rattle.rules.specs.Effects.{openBy, effectFrom, effectBy}
-use Rattle.rules.specs.Calls.{accepted, query, afterRefusal, after, run, outcomes}
-use Rattle.rules.specs.Requests.{Request, Login, Clone, SendSignal, SetLevel, Terminate, Create, OnObject, Unknown, OpenChange, Keep, Add, Close, CloseAll, requestOf, inDirectory, openChange}
+use Rattle.labels.specs.Laws.Decisions.{by-test}
+use Rattle.answers.specs.Outcomes.{denies, numberOf}
+use Rattle.opens.specs.Opens.{mostObjects}
+use Rattle.state.specs.State.{mostRefusals, putProcess, putOpens, putObject, addObject, dropObject, putRefusals, oneMore, counted, openBy}
+use Rattle.rules.specs.Effects.{effectFrom, effectBy}
+use Rattle.rules.specs.Calls.{accepted, query, afterRefusal, after}
+use Rattle.rules.specs.Histories.{run, outcomes}
+use Rattle.rules.specs.Requests.{Action, Login, Clone, SendSignal, SetLevel, Terminate, Create, OnObject, Unknown, OpenChange, Keep, Add, Close}
+use Rattle.rules.specs.Requests.{CloseAll, actionOf, inDirectory, openChange}
 use Rattle.rules.specs.Setup.{fresh}
 use Rattle.rules.specs.Promises.{denialsIn, CounterCounts}
 use Rattle.rules.specs.Questions.{number}
@@ -31,7 +34,7 @@ unfolding addObject putObject
 add-refusals f o = by-test (ltb (f .entered) mostObjects) (λ e. rw e) (λ e. rw e)
 
 -- an accepted call leaves the counter
-effect-refusals : (k : Request) (f : Facility) (c : Call) → (effectBy k f c) .refusals ≡ f .refusals
+effect-refusals : (k : Action) (f : Facility) (c : Call) → (effectBy k f c) .refusals ≡ f .refusals
 unfolding effectFrom putProcess putOpens
 effect-refusals Login f c = refl
 effect-refusals Clone f c = refl
@@ -63,7 +66,7 @@ call-refusals f c h =
     (λ e.
     let n : number f c ≡ 0 = eqb-true _ _ e in
     let z = not-denied (number f c) (omega arith) in
-    rw (e, z) (effect-refusals (requestOf (c .request)) f c ∙ omega arith))
+    rw (e, z) (effect-refusals (actionOf (c .request)) f c ∙ omega arith))
     (λ e. by-test (denies (number f c))
     (λ d. rw (e, d) (counted-refusals f ∙ capped (f .refusals) h))
     (λ d. rw (e, d) (omega arith))))

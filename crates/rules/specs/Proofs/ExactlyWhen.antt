@@ -8,26 +8,30 @@ use lib.Dec.{ltb, eqb}
 use native.Mathlib.Omega.{arith}
 use borrow.Author.Tests.{ltb-true, lt-ltb, eq-eqb}
 use Rattle.rules.specs.Types.{Granted, Call, Facility}
-use Rattle.state.specs.Tests.{_and_, on, and-i, or-r, by-test, by-eq}
-use Rattle.state.specs.Views.{process-same, shaped-process}
-use Rattle.state.specs.Outcomes.{answersFrom}
-use Rattle.state.specs.State.{objectOf, trustedUser, labelOf, clearanceOf, reading, writing, putProcess, freshProcess}
-use Rattle.state.specs.Labels.{lawful, given, _⊑_, ⊑-refl, join-least, bottom-least, below-lawful, lawful-given}
-use Rattle.state.specs.Answers.{passes, grant-passes}
-use Rattle.rules.specs.Flow.{allFourBytes, loginsBy, Carries, ExactlyWhen}
+use Rattle.labels.specs.Decisions.{_and_}
+use Rattle.labels.specs.Laws.Decisions.{and-i, or-r, by-test, by-eq}
+use Rattle.state.specs.Laws.ReadBack.{process-same, shaped-process}
+use Rattle.state.specs.State.{switchesOf, objectOf, trustedUser, labelOf, clearanceOf, putProcess, freshProcess}
+use Rattle.opens.specs.Opens.{reading, writing}
+use Rattle.labels.specs.Labels.{lawful, given, _⊑_}
+use Rattle.labels.specs.Laws.Labels.{⊑-refl, join-least, bottom-least, below-lawful, lawful-given}
+use Rattle.answers.specs.Answers.{passes}
+use Rattle.answers.specs.Laws.Answers.{grant-passes}
+use Rattle.rules.specs.Flow.{allFourBytes, loginsBy, MacAlone, Carries, ExactlyWhen}
 use Rattle.rules.specs.Effects.{effectFrom, effectBy}
-use Rattle.rules.specs.Calls.{accepted, trustedLogins}
-use Rattle.rules.specs.Requests.{Login, Reads, Writes, Both, NoCondition, Keep, Add, isLogin, requestOf}
+use Rattle.rules.specs.Calls.{accepted}
+use Rattle.rules.specs.Histories.{trustedLogins, history}
+use Rattle.rules.specs.Requests.{Login, Reads, Writes, Both, NoCondition, Keep, Add, isLogin, actionOf}
 use Rattle.rules.specs.Computed.{requestsComputed}
 use Rattle.rules.specs.Setup.{fresh}
-use Rattle.rules.specs.Matter.{Account, start, assign, carryBy, account, history}
-use Rattle.rules.specs.Modules.{viewOf, mayRead, mayWrite, macClass, macRule, macAnswer, fcAnswer, simAnswer, answers, moveBy}
+use Rattle.rules.specs.Matter.{Account, start, assign, carryBy, account}
+use Rattle.rules.specs.Modules.{viewOf, mayRead, mayWrite, macClass, macRule, answers, moveBy}
 use Rattle.rules.specs.Questions.{numberBy}
 use Rattle.rules.specs.Proofs.Regular.{allowed-kind, allowed-clearance}
 use Rattle.rules.specs.Proofs.Kept.{kept-run}
 use Rattle.rules.specs.Proofs.Fresh.{Fresh, fresh-setup}
-use Rattle.rules.specs.Proofs.Witness.{by, Scene, Reach, reach-call, carry-keeps, carry-keeps-object}
-use Rattle.rules.specs.Proofs.Witness.{carry-takes, carry-gives, reach-target, open-to-read, open-to-write}
+use Rattle.rules.specs.Proofs.Witness.{by, alone-is, Scene, Reach, reach-call, carry-keeps, carry-keeps-object, carry-takes, carry-gives}
+use Rattle.rules.specs.Proofs.Witness.{reach-target, open-to-read, open-to-write}
 use Rattle.rules.specs.Proofs.OnlyWhen.{only-when}
 use Rattle.rules.specs.Proofs.Passed.{all-passed}
 
@@ -77,18 +81,18 @@ module _ (u : ℕ) where
   unfolding loginsBy
   no-logins = refl
 
-  no-login : (q t : ℕ) (cs : List Call) → isLogin (requestOf q) ≡ false → loginsBy u cs ≡ true → loginsBy u (by 0 q t ∷ cs) ≡ true
+  no-login : (q t : ℕ) (cs : List Call) → isLogin (actionOf q) ≡ false → loginsBy u cs ≡ true → loginsBy u (by 0 q t ∷ cs) ≡ true
   unfolding loginsBy
   no-login q t cs h b = and-i _ _ (rw h) b
 
   read-logins : (kind t : ℕ) (rest : List Call) → loginsBy u rest ≡ true → loginsBy u (readCalls kind t rest) ≡ true
-  unfolding readCalls requestOf
+  unfolding readCalls actionOf
   read-logins kind t rest b =
       by-test (eqb kind 0) (λ e. rw e (no-login 13 t _ refl (no-login 12 t _ refl b)))
       (λ e. by-test (eqb kind 1) (λ d. rw (e, d) (no-login 12 t _ refl b)) (λ d. rw (e, d) (no-login 8 t _ refl b)))
 
   write-logins : (kind t : ℕ) → loginsBy u (writeCalls kind t) ≡ true
-  unfolding writeCalls requestOf
+  unfolding writeCalls actionOf
   write-logins kind t =
       by-test (eqb kind 0) (λ e. rw e (no-login 20 t _ refl (no-login 19 t [] refl no-logins)))
       (λ e. by-test (eqb kind 1) (λ d. rw (e, d) (no-login 19 t [] refl no-logins))
@@ -262,10 +266,10 @@ module _ (f₀ : Facility) (F : Fresh f₀) (u x y : ℕ) (hx : x < f₀ .entere
       refl refl [] y x
       (λ S1. record { untrusted = refl; holding = carry-gives 0 a 11 y Writes x refl refl has })))))
 
-  module _ (m : on (f₀ .mac) ≡ true) (fc : on (f₀ .fc) ≡ false) (sim : on (f₀ .sim) ≡ false) where
+  module _ (A : MacAlone (switchesOf f₀)) where
     login-combined : answers Login (viewOf f₀ (login u)) (login u) .combined ≡ Granted
-    unfolding answers answersFrom macAnswer fcAnswer simAnswer macRule _and_
-    login-combined = rw (m, fc, sim)
+    unfolding macRule
+    login-combined = alone-is Login (viewOf f₀ (login u)) (login u) A
 
     login-number : numberBy Login (viewOf f₀ (login u)) (login u) ≡ 0
     unfolding login passes
@@ -291,7 +295,7 @@ module _ (f₀ : Facility) (F : Fresh f₀) (u x y : ℕ) (hx : x < f₀ .entere
         })
 
     login-accepted : accepted f₀ (login u) ≡ true
-    unfolding accepted requestOf login
+    unfolding accepted actionOf login
     login-accepted = rw login-number
 
     login-scene : Scene 0 f₀ (effectBy Login f₀ (login u)) (carryBy Login (start f₀) (login u)) u (freshProcess u)
@@ -300,9 +304,7 @@ module _ (f₀ : Facility) (F : Fresh f₀) (u x y : ℕ) (hx : x < f₀ .entere
         record {
           small = omega arith;
           shaped = shaped-process f₀ 0 _ (F .regular .sound .shaped);
-          mac = m;
-          fc = fc;
-          sim = sim;
+          alone = A;
           objects = λ t. refl;
           user = refl;
           untrusted = tu;
@@ -320,7 +322,7 @@ module _ (f₀ : Facility) (F : Fresh f₀) (u x y : ℕ) (hx : x < f₀ .entere
     witness = login u ∷ readCalls ((objectOf f₀ x) .kind) x (writeCalls ((objectOf f₀ y) .kind) y)
 
     reach-all : Reach f₀ (start f₀) witness y x
-    unfolding witness _and_ login requestOf
+    unfolding witness _and_ login actionOf
     reach-all =
         reach-call f₀ (start f₀) (login u) Login _ y x refl login-accepted tu
         (reach-read _ _ _ login-scene holds-itself (λ g d S h. reach-write g d S h))
@@ -333,28 +335,28 @@ module _ (f₀ : Facility) (F : Fresh f₀) (u x y : ℕ) (hx : x < f₀ .entere
         (write-bytes _ y (lt-ltb y 256 (omega (arith, F .regular .sound .entered)))))
 
     witness-logins : loginsBy u witness ≡ true
-    unfolding witness loginsBy login requestOf
+    unfolding witness loginsBy login actionOf
     witness-logins = and-i _ _ (eq-eqb u u refl) (read-logins u _ x _ (write-logins u _ y))
 
 pub exactly-when : ExactlyWhen
-exactly-when s m fc sim a b ha hb na u C = (rises, falls)
+exactly-when s A a b ha hb na u C = (rises, falls)
   where
     rises : Carries s u a b → labelOf (fresh s) a ⊑ labelOf (fresh s) b
     rises W =
         by-eq b a
         (λ e. subst⁻¹ (λ (k : ℕ). labelOf (fresh s) a ⊑ labelOf (fresh s) k) e (⊑-refl _))
         (λ n. subst₂ _⊑_ (kept-run (W .calls) (fresh s) a ha .label) (kept-run (W .calls) (fresh s) b hb .label)
-        (only-when s m (W .calls) (W .untrusted) a b (W .holding) n .above))
+        (only-when s (A .mac) (W .calls) (W .untrusted) a b (W .holding) n .above))
 
     falls : labelOf (fresh s) a ⊑ labelOf (fresh s) b → Carries s u a b
     falls h =
         let F = fresh-setup s in
         let hu = ltb-true _ _ (C .user) in
-        let R = reach-all (fresh s) F u a b ha hb na hu (C .untrusted) (C .first) (C .second) h m fc sim in
+        let R = reach-all (fresh s) F u a b ha hb na hu (C .untrusted) (C .first) (C .second) h A in
         record {
-          calls = witness (fresh s) F u a b ha hb na hu (C .untrusted) (C .first) (C .second) h m fc sim;
-          four = witness-bytes (fresh s) F u a b ha hb na hu (C .untrusted) (C .first) (C .second) h m fc sim;
-          logins = witness-logins (fresh s) F u a b ha hb na hu (C .untrusted) (C .first) (C .second) h m fc sim;
+          calls = witness (fresh s) F u a b ha hb na hu (C .untrusted) (C .first) (C .second) h A;
+          four = witness-bytes (fresh s) F u a b ha hb na hu (C .untrusted) (C .first) (C .second) h A;
+          logins = witness-logins (fresh s) F u a b ha hb na hu (C .untrusted) (C .first) (C .second) h A;
           untrusted = R .untrusted;
           holding = R .holding;
         }

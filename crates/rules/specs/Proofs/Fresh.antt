@@ -1,19 +1,24 @@
--- What holds of the fresh facility of every set-up, accepted or refused.
+-- What holds of the fresh facility of every set-up, accepted or refused, and what the records that were read tell of it.
 use Prim.Native.Nat.{ℕ, _+_, _<_}
-use mathlib.Core.Path.{_≡_, refl, subst⁻¹}
+use mathlib.Core.Path.{_≡_, refl, sym, _∙_, ap, subst⁻¹}
 use mathlib.Core.Bool.{true, false}
 use mathlib.Core.List.{List, [], _∷_}
 use lib.Dec.{eqb}
 use native.Mathlib.Omega.{arith}
-use borrow.Author.Tests.{eqb-true}
-use Rattle.rules.specs.Types.{User, Object, Facility}
-use Rattle.state.specs.Tests.{_and_, on, by-test, by-eq}
-use Rattle.state.specs.Views.{object-new, object-old, add-user, add-object}
-use Rattle.state.specs.State.{mostUsers, mostObjects, runs, live, opensOf, putUser, putObject, noProcess, blank}
-use Rattle.rules.specs.Setup.{SetupRecord, sized, switchesAllowed, userAllowed, objectAllowed, recordNumber, userEntered, objectEntered, enterRecord, enterAll, readSetup, switchesRecord, userRecord, objectRecord}
+use borrow.Author.Tests.{ltb-true, eqb-true}
+use Rattle.rules.specs.Types.{Switches, User, Object, Facility}
+use Rattle.labels.specs.Decisions.{_and_, on}
+use Rattle.labels.specs.Laws.Decisions.{by-test, by-eq}
+use Rattle.state.specs.Laws.ReadBack.{object-new, object-old, add-user, add-object}
+use Rattle.state.specs.State.{mostUsers, switchesOf, allOff, runs, live, opensOf, putUser, putObject, noProcess, blank}
+use Rattle.opens.specs.Opens.{mostObjects}
+use Rattle.rules.specs.Kinds.{SetupRecord, switchesKind, usersKind, objectsKind, kindOf, countOf, fits, room, allowedBy, recordNumber}
+use Rattle.rules.specs.Setup.{sized, switchesEntered, userEntered, objectEntered, enterRecord, enterAll, readSetup, switchesRecord, userRecord}
+use Rattle.rules.specs.Setup.{objectRecord}
 use Rattle.rules.specs.Proofs.Regular.{Regular, regular-user, regular-object, none-lawful}
 use Rattle.rules.specs.Proofs.Sound.{sound-blank, blank-closed, blank-process}
-use Rattle.rules.specs.Proofs.Records.{switches-record, user-record, object-record, Accepts, as-switches, as-user, as-object, accepts}
+use Rattle.rules.specs.Proofs.Records.{kept, kept-record, allowed-as, Accepts, accepts, first-kind, by-kind}
+use Rattle.rules.specs.Proofs.Past.{count-same, count-other, later-place}
 
 pub record Fresh (f : Facility) : Type 0 where
   pub regular : Regular f
@@ -22,40 +27,40 @@ pub record Fresh (f : Facility) : Type 0 where
   pub closed : (p t : ℕ) → opensOf f p t ≡ 0
   pub refusals : f .refusals ≡ 0
 
-blank-refusals : (mac fc sim : ℕ) → (blank mac fc sim) .refusals ≡ 0
+blank-refusals : (s : Switches) → (blank s) .refusals ≡ 0
 unfolding blank
-blank-refusals mac fc sim = refl
+blank-refusals s = refl
 
-blank-users : (mac fc sim : ℕ) → (blank mac fc sim) .users ≡ 0
+blank-users : (s : Switches) → (blank s) .users ≡ 0
 unfolding blank
-blank-users mac fc sim = refl
+blank-users s = refl
 
-blank-entered : (mac fc sim : ℕ) → (blank mac fc sim) .entered ≡ 0
+blank-entered : (s : Switches) → (blank s) .entered ≡ 0
 unfolding blank
-blank-entered mac fc sim = refl
+blank-entered s = refl
 
-fresh-blank : (mac fc sim : ℕ) → switchesAllowed (switchesRecord (blank mac fc sim)) ≡ true → Fresh (blank mac fc sim)
+fresh-blank : (s : Switches) → allowedBy switchesKind (switchesRecord (switchesOf (blank s))) ≡ true → Fresh (blank s)
 unfolding noProcess
-fresh-blank mac fc sim h =
+fresh-blank s h =
     record {
       regular = record {
-        sound = sound-blank mac fc sim;
+        sound = sound-blank s;
         switches = h;
-        user = λ u b. absurd (omega (arith, blank-users mac fc sim));
-        object = λ t b. absurd (omega (arith, blank-entered mac fc sim));
-        process = λ p. rw (blank-process mac fc sim p) none-lawful;
+        user = λ u b. absurd (omega (arith, blank-users s));
+        object = λ t b. absurd (omega (arith, blank-entered s));
+        process = λ p. rw (blank-process s p) none-lawful;
       };
-      whole = λ t b. absurd (omega (arith, blank-entered mac fc sim));
-      stopped = λ p. rw (blank-process mac fc sim p);
-      closed = λ p t. blank-closed mac fc sim p t;
-      refusals = blank-refusals mac fc sim;
+      whole = λ t b. absurd (omega (arith, blank-entered s));
+      stopped = λ p. rw (blank-process s p);
+      closed = λ p t. blank-closed s p t;
+      refusals = blank-refusals s;
     }
 
-pub fresh-refused : Fresh (blank 0 0 0)
-unfolding blank switchesAllowed _and_
-fresh-refused = fresh-blank 0 0 0 refl
+pub fresh-refused : Fresh (blank allOff)
+unfolding blank allowedBy _and_
+fresh-refused = fresh-blank allOff refl
 
-fresh-user : (f : Facility) (u : User) → Fresh f → f .users < mostUsers → userAllowed (userRecord u) ≡ true → Fresh (putUser f u)
+fresh-user : (f : Facility) (u : User) → Fresh f → f .users < mostUsers → allowedBy usersKind (userRecord u) ≡ true → Fresh (putUser f u)
 unfolding putUser opensOf
 fresh-user f u F h a =
     record {
@@ -66,7 +71,7 @@ fresh-user f u F h a =
       refusals = F .refusals;
     }
 
-fresh-object : (f : Facility) (o : Object) → Fresh f → f .entered < mostObjects → objectAllowed (objectRecord o) ≡ true → on (o .live) ≡ true
+fresh-object : (f : Facility) (o : Object) → Fresh f → f .entered < mostObjects → allowedBy objectsKind (objectRecord o) ≡ true → on (o .live) ≡ true
     → Fresh (putObject f o)
 unfolding putObject opensOf
 fresh-object f o F h a v =
@@ -81,23 +86,109 @@ fresh-object f o F h a v =
       refusals = F .refusals;
     }
 
-pub fresh-record : (f : Facility) (i : ℕ) (r : SetupRecord) → Fresh f → Accepts f i r → Fresh (enterRecord f r)
-unfolding enterRecord
-fresh-record f i r F (as-switches z k a) =
-    rw k (fresh-blank _ _ _ (subst⁻¹ (λ (x : SetupRecord). switchesAllowed x ≡ true) (switches-record r k a) a))
-fresh-record f i r F (as-user z k3 k1 e h a) =
-    rw (k3, k1, add-user f (userEntered r) h) (fresh-user f _ F h (subst⁻¹ (λ (x : SetupRecord). userAllowed x ≡ true) (user-record r k1 a) a))
-fresh-record f i r F (as-object z k3 k1 k2 h a) =
-    rw (k3, k1, add-object f (objectEntered r) h) (fresh-object f _ F h (subst⁻¹ (λ (x : SetupRecord). objectAllowed x ≡ true) (object-record r k2 a) a) refl)
+-- What the records that were read tell of the facility.
+pub record Told (past : List SetupRecord) (f : Facility) : Type 0 where
+  pub users : f .users ≡ countOf 1 past
+  pub entered : f .entered ≡ countOf 2 past
 
-fresh-all : (i : ℕ) (f : Facility) (rs : List SetupRecord) → Fresh f → Fresh ((enterAll i f rs) .facility)
+abbrev pub Read : List SetupRecord → Facility → Type 0
+Read past f = Fresh f × Told past f
+
+-- what an accepted user record, and an accepted object record, gives
+pub record AsUser (f : Facility) (r : SetupRecord) : Type 0 where
+  pub room : f .users < mostUsers
+  pub is : userRecord (userEntered r) ≡ r
+  pub allowed : allowedBy usersKind r ≡ true
+  pub entered : enterRecord f r ≡ putUser f (userEntered r)
+
+pub record AsObject (f : Facility) (r : SetupRecord) : Type 0 where
+  pub room : f .entered < mostObjects
+  pub is : objectRecord (objectEntered r) ≡ r
+  pub allowed : allowedBy objectsKind r ≡ true
+  pub entered : enterRecord f r ≡ putObject f (objectEntered r)
+
+module _ (past : List SetupRecord) (f : Facility) (r : SetupRecord) (T : Told past f) (A : Accepts past r) where
+  pub as-user : r .kind ≡ 1 → AsUser f r
+  unfolding kindOf room kept enterRecord
+  as-user e =
+      let b : countOf 1 past < mostUsers = ltb-true _ _ (rw e at (A .room)) in
+      let h : f .users < mostUsers = omega (arith, T .users) in
+      let a : allowedBy usersKind r ≡ true = allowed-as 1 past r e (A .allowed) in
+      record { room = h; is = kept-record 1 r e a; allowed = a; entered = rw e (add-user f (userEntered r) h) }
+
+  pub as-object : r .kind ≡ 2 → AsObject f r
+  unfolding kindOf room kept enterRecord
+  as-object e =
+      let b : countOf 2 past < mostObjects = ltb-true _ _ (rw e at (A .room)) in
+      let h : f .entered < mostObjects = omega (arith, T .entered) in
+      let a : allowedBy objectsKind r ≡ true = allowed-as 2 past r e (A .allowed) in
+      record { room = h; is = kept-record 2 r e a; allowed = a; entered = rw e (add-object f (objectEntered r) h) }
+
+told-user : (past : List SetupRecord) (f : Facility) (r : SetupRecord) (u : User) → r .kind ≡ 1 → Told past f → Told (r ∷ past) (putUser f u)
+unfolding putUser
+told-user past f r u e T =
+    record {
+      users = ap (λ (n : ℕ). n + 1) (T .users) ∙ sym (count-same 1 r past e);
+      entered = T .entered ∙ sym (count-other 2 r past (λ z. absurd (omega arith)));
+    }
+
+told-object : (past : List SetupRecord) (f : Facility) (r : SetupRecord) (o : Object) → r .kind ≡ 2 → Told past f → Told (r ∷ past) (putObject f o)
+unfolding putObject
+told-object past f r o e T =
+    record {
+      users = T .users ∙ sym (count-other 1 r past (λ z. absurd (omega arith)));
+      entered = ap (λ (n : ℕ). n + 1) (T .entered) ∙ sym (count-same 2 r past e);
+    }
+
+-- the switches record
+pub as-switches : (f : Facility) (r : SetupRecord) → Accepts [] r
+    → (enterRecord f r ≡ blank (switchesEntered r)) × (switchesRecord (switchesEntered r) ≡ r) × (r .kind ≡ 3)
+unfolding enterRecord kindOf kept fits
+as-switches f r A =
+    let e : r .kind ≡ 3 = first-kind (r .kind) (A .fits) in
+    (rw e, kept-record 3 r e (allowed-as 3 [] r e (A .allowed)), e)
+
+read-first : (f : Facility) (r : SetupRecord) → Accepts [] r → Read (r ∷ []) (enterRecord f r)
+unfolding kindOf countOf blank
+read-first f r A =
+    let (entered, is, e) = as-switches f r A in
+    let a : allowedBy switchesKind r ≡ true = allowed-as 3 [] r e (A .allowed) in
+    rw entered (
+      fresh-blank _ (subst⁻¹ (λ (x : SetupRecord). allowedBy switchesKind x ≡ true) is a),
+      record {
+        users = sym (count-other 1 r [] (λ z. absurd (omega arith)));
+        entered = sym (count-other 2 r [] (λ z. absurd (omega arith)));
+      },
+    )
+
+-- each record that is accepted keeps all this
+pub read-record : (past : List SetupRecord) (f : Facility) (r : SetupRecord) → Read past f → Accepts past r → Read (r ∷ past) (enterRecord f r)
+read-record [] f r D A = read-first f r A
+read-record (q ∷ past) f r (F, T) A =
+    by-kind (r .kind) (later-place q past r (A .fits))
+    (λ e.
+    let U = as-user (q ∷ past) f r T A e in
+    rw (U .entered)
+    (fresh-user f _ F (U .room) (subst⁻¹ (λ (x : SetupRecord). allowedBy usersKind x ≡ true) (U .is) (U .allowed)), told-user (q ∷ past) f r _ e T))
+    (λ e.
+    let O = as-object (q ∷ past) f r T A e in
+    rw (O .entered) (
+      fresh-object f _ F (O .room) (subst⁻¹ (λ (x : SetupRecord). allowedBy objectsKind x ≡ true) (O .is) (O .allowed)) refl,
+      told-object (q ∷ past) f r _ e T,
+    ))
+
+pub read-none : Read [] (blank allOff)
+unfolding countOf
+read-none = (fresh-refused, record { users = blank-users allOff; entered = blank-entered allOff })
+
+fresh-all : (past : List SetupRecord) (f : Facility) (rs : List SetupRecord) → Read past f → Fresh ((enterAll past f rs) .facility)
 unfolding enterAll
-fresh-all i f [] F = F
-fresh-all i f (r ∷ rs) F =
-    by-test (eqb (recordNumber (f .users) (f .entered) i r) 0)
-    (λ e. rw e (fresh-all (i + 1) (enterRecord f r) rs (fresh-record f i r F (accepts f i r (eqb-true _ _ e)))))
+fresh-all past f [] D = D .0
+fresh-all past f (r ∷ rs) D =
+    by-test (eqb (recordNumber past r) 0)
+    (λ e. rw e (fresh-all (r ∷ past) (enterRecord f r) rs (read-record past f r D (accepts past r (eqb-true _ _ e)))))
     (λ e. rw e fresh-refused)
 
 pub fresh-setup : (s : List ℕ) → Fresh ((readSetup s) .facility)
 unfolding readSetup
-fresh-setup s = by-test (sized s) (λ e. rw e (fresh-all 0 _ _ fresh-refused)) (λ e. rw e fresh-refused)
+fresh-setup s = by-test (sized s) (λ e. rw e (fresh-all [] _ _ read-none)) (λ e. rw e fresh-refused)

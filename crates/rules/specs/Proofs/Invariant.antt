@@ -10,11 +10,15 @@ use lib.ListN.{length}
 use native.Mathlib.Omega.{arith}
 use borrow.Author.Tests.{eqb-true, eq-eqb, ne-eqb}
 use Rattle.rules.specs.Types.{Process, Object, Facility}
-use Rattle.state.specs.Tests.{at, on, or-cases, by-test, by-eq}
-use Rattle.state.specs.Views.{Shaped, process-same, process-other, object-new, object-old}
-use Rattle.state.specs.State.{mostProcesses, mostObjects, mostOpens, objectIn, processOf, objectOf, runs, trustedUser, labelOf, opensOf, reading, writing}
-use Rattle.state.specs.State.{putProcess, putOpens, putObject, dropObject, putRefusals, counted}
-use Rattle.state.specs.Labels.{Label, given, _⊑_, ⊑-trans}
+use Rattle.labels.specs.Decisions.{at, on}
+use Rattle.labels.specs.Laws.Decisions.{or-cases, by-test, by-eq}
+use Rattle.state.specs.Shaped.{Shaped}
+use Rattle.state.specs.Laws.ReadBack.{process-same, process-other, object-new, object-old}
+use Rattle.opens.specs.Opens.{mostProcesses, mostObjects, mostOpens, reading, writing}
+use Rattle.state.specs.State.{objectIn, processOf, objectOf, runs, trustedUser, labelOf, opensOf, putProcess, putOpens, putObject, dropObject, putRefusals}
+use Rattle.state.specs.State.{counted}
+use Rattle.labels.specs.Labels.{Label, given, _⊑_}
+use Rattle.labels.specs.Laws.Labels.{⊑-trans}
 use Rattle.rules.specs.Flow.{Above}
 use Rattle.rules.specs.Matter.{Set, only, put, Account, processGains, objectGains, assign, enter}
 use Rattle.rules.specs.Proofs.Sound.{Sound, sound-process, sound-opens, sound-refusals, sound-object, sound-drop}

@@ -5,12 +5,15 @@ use mathlib.Core.List.{List, [], _∷_}
 use lib.Dec.{ltb}
 use native.Mathlib.Omega.{arith}
 use Rattle.rules.specs.Types.{Call, Object, Facility}
-use Rattle.state.specs.Tests.{by-test}
-use Rattle.state.specs.Outcomes.{denies}
-use Rattle.state.specs.State.{mostObjects, objectIn, labelOf, putProcess, putOpens, putObject, addObject, dropObject, putRefusals, counted}
-use Rattle.rules.specs.Effects.{openBy, effectFrom, effectBy}
-use Rattle.rules.specs.Calls.{accepted, afterRefusal, after, run}
-use Rattle.rules.specs.Requests.{Request, Login, Clone, SendSignal, SetLevel, Terminate, Create, OnObject, Unknown, OpenChange, Keep, Add, Close, CloseAll, requestOf, inDirectory, openChange}
+use Rattle.labels.specs.Laws.Decisions.{by-test}
+use Rattle.answers.specs.Outcomes.{denies}
+use Rattle.opens.specs.Opens.{mostObjects}
+use Rattle.state.specs.State.{objectIn, labelOf, putProcess, putOpens, putObject, addObject, dropObject, putRefusals, counted, openBy}
+use Rattle.rules.specs.Effects.{effectFrom, effectBy}
+use Rattle.rules.specs.Calls.{accepted, afterRefusal, after}
+use Rattle.rules.specs.Histories.{run}
+use Rattle.rules.specs.Requests.{Action, Login, Clone, SendSignal, SetLevel, Terminate, Create, OnObject, Unknown, OpenChange, Keep, Add, Close}
+use Rattle.rules.specs.Requests.{CloseAll, actionOf, inDirectory, openChange}
 use Rattle.rules.specs.Questions.{number}
 use Rattle.rules.specs.Proofs.Invariant.{level-old}
 
@@ -36,7 +39,7 @@ kept-open (Add m) f p t u h = record { inside = h; label = refl }
 kept-open Close f p t u h = record { inside = h; label = refl }
 kept-open CloseAll f p t u h = record { inside = h; label = refl }
 
-kept-effect : (k : Request) (f : Facility) (c : Call) (t : ℕ) → t < f .entered → Kept f (effectBy k f c) t
+kept-effect : (k : Action) (f : Facility) (c : Call) (t : ℕ) → t < f .entered → Kept f (effectBy k f c) t
 unfolding effectFrom putProcess putOpens
 kept-effect Login f c t h = record { inside = h; label = refl }
 kept-effect Clone f c t h = record { inside = h; label = refl }
@@ -60,7 +63,7 @@ kept-after : (f : Facility) (c : Call) (t : ℕ) → t < f .entered → Kept f (
 unfolding after afterRefusal
 kept-after f c t h =
     by-test (accepted f c)
-    (λ e. rw e (kept-effect (requestOf (c .request)) f c t h))
+    (λ e. rw e (kept-effect (actionOf (c .request)) f c t h))
     (λ e. rw e (by-test (denies (number f c)) (λ d. rw d (counted-kept f t h)) (λ d. rw d (kept f t h))))
 
 pub kept-run : (cs : List Call) (f : Facility) (t : ℕ) → t < f .entered → Kept f (run f cs) t

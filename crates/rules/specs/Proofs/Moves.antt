@@ -3,10 +3,14 @@ use Prim.Native.Nat.{ℕ, _<_}
 use mathlib.Core.Path.{_≡_, refl}
 use mathlib.Core.Bool.{Bool, true, false}
 use Rattle.rules.specs.Types.{Call, Process, User, Object, Facility}
-use Rattle.state.specs.Tests.{_and_, at, on, and-l, and-r, or-cases, clash, by-test}
-use Rattle.state.specs.State.{mostProcesses, processOf, putProcess}
-use Rattle.state.specs.Labels.{Label, label, given, _⊑_, ⊑-refl, ⊑-trans, same-eq, join-l, join-r, join-least, meet-l, meet-r, meet-greatest}
-use Rattle.state.specs.Answers.{passes, passes-grant}
+use Rattle.labels.specs.Decisions.{_and_, at, on}
+use Rattle.labels.specs.Laws.Decisions.{and-l, and-r, or-cases, clash, by-test}
+use Rattle.opens.specs.Opens.{mostProcesses}
+use Rattle.state.specs.State.{processOf, putProcess}
+use Rattle.labels.specs.Labels.{Label, label, given, _⊑_}
+use Rattle.labels.specs.Laws.Labels.{⊑-refl, ⊑-trans, same-eq, join-l, join-r, join-least, meet-l, meet-r, meet-greatest}
+use Rattle.answers.specs.Answers.{passes}
+use Rattle.answers.specs.Laws.Answers.{passes-grant}
 use Rattle.rules.specs.Requests.{Class, Absent, Reads, Writes, Both, NoCondition, observes, alters}
 use Rattle.rules.specs.Matter.{Set, Account}
 use Rattle.rules.specs.Modules.{View, classIn, mayRead, mayWrite, maySet, macClass, macObject, moveBy, setLevel, moved, levelled}
@@ -92,7 +96,8 @@ move-closed Both l r = record { reads = λ h. ⊑-refl _; writes = λ h. ⊑-ref
 move-closed NoCondition l r = record { reads = λ h. clash h refl; writes = λ h. clash h refl }
 
 -- after a granted W or B the read mark is at most the object's label
-pub move-over : (k : Class) (l : Label) (r : Process) (clr : Label) → Ordered r → passes (macClass k l r clr) ≡ true → alters k ≡ true → ((moveBy k l r) .readmark) ⊑ l
+pub move-over : (k : Class) (l : Label) (r : Process) (clr : Label) → Ordered r → passes (macClass k l r clr) ≡ true → alters k ≡ true
+    → ((moveBy k l r) .readmark) ⊑ l
 unfolding macClass moveBy
 move-over Absent l r clr o h w = clash w refl
 move-over Reads l r clr o h w = clash w refl
@@ -129,13 +134,13 @@ unfolding macObject passes
 object-granted k o r u t h = by-test (given (o .label)) (λ g. (g, rw (g, t) at h)) (λ g. clash (rw g at h) refl)
 
 -- the caller's move, where MAC is on and its owner untrusted
-pub moved-is : (v : View) (c : Call) → on (v .mac) ≡ true → on (v .owner .trusted) ≡ false
-    → moved v c ≡ moveBy (classIn v c) (v .object .label) (v .caller)
+pub moved-is : (v : View) (c : Call) → on (v .switches .mac) ≡ true → on (v .owner .trusted) ≡ false
+    → moved v c ≡ moveBy (classIn v c) (v .target .object .label) (v .caller)
 unfolding moved _and_
 moved-is v c m u = rw (m, u)
 
 -- set-level is a move
-pub levelled-moved : (v : View) (c : Call) → on (v .mac) ≡ true
+pub levelled-moved : (v : View) (c : Call) → on (v .switches .mac) ≡ true
     → maySet (label (c .extra)) (v .caller) (v .owner .clearance) ≡ true → Moved (v .caller) (levelled v c)
 unfolding levelled setLevel maySet
 levelled-moved v c m h =

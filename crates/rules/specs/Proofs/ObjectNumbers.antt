@@ -9,13 +9,17 @@ use lib.ListN.{length}
 use native.Mathlib.Omega.{arith}
 use borrow.Author.Tests.{ltb-true, lt-ltb, ne-eqb}
 use Rattle.rules.specs.Types.{Call, Object, Facility}
-use Rattle.state.specs.Tests.{_and_, asked, ask, at, and-l, by-test}
-use Rattle.state.specs.Outcomes.{denies, outcomeOf, objectNumberOf}
-use Rattle.state.specs.State.{mostObjects, putProcess, putOpens, putObject, addObject, dropObject, putRefusals, counted}
-use Rattle.state.specs.Answers.{isNotGranted, isUndefined}
-use Rattle.rules.specs.Effects.{openBy, effectFrom, effectBy}
-use Rattle.rules.specs.Calls.{accepted, objectGiven, query, afterRefusal, after, run}
-use Rattle.rules.specs.Requests.{Request, Login, Clone, SendSignal, SetLevel, Terminate, Create, OnObject, Unknown, OpenChange, Keep, Add, Close, CloseAll, requestOf, isSetLevel, isCreate, inDirectory, openChange}
+use Rattle.labels.specs.Decisions.{_and_, asked, ask, at}
+use Rattle.labels.specs.Laws.Decisions.{and-l, by-test}
+use Rattle.answers.specs.Outcomes.{denies, outcomeOf, objectNumberOf}
+use Rattle.opens.specs.Opens.{mostObjects}
+use Rattle.state.specs.State.{putProcess, putOpens, putObject, addObject, dropObject, putRefusals, counted, openBy}
+use Rattle.answers.specs.Answers.{isNotGranted, isUndefined}
+use Rattle.rules.specs.Effects.{effectFrom, effectBy}
+use Rattle.rules.specs.Calls.{accepted, objectGiven, query, afterRefusal, after}
+use Rattle.rules.specs.Histories.{run}
+use Rattle.rules.specs.Requests.{Action, Login, Clone, SendSignal, SetLevel, Terminate, Create, OnObject, Unknown, OpenChange, Keep, Add, Close}
+use Rattle.rules.specs.Requests.{CloseAll, actionOf, isSetLevel, isCreate, inDirectory, openChange}
 use Rattle.rules.specs.Setup.{fresh}
 use Rattle.rules.specs.Modules.{View, viewOf, answers, moved}
 use Rattle.rules.specs.Promises.{numbersGiven, upFrom, PassedTo9, ObjectNumbers}
@@ -36,7 +40,7 @@ unfolding addObject putObject
 add-entered f o h = rw (lt-ltb _ _ h)
 
 -- an accepted create enters one object more, every other call none
-pub effect-entered : (k : Request) (f : Facility) (c : Call) → Passed k (viewOf f c) c → (effectBy k f c) .entered ≡ f .entered + cond (isCreate k) 1 0
+pub effect-entered : (k : Action) (f : Facility) (c : Call) → Passed k (viewOf f c) c → (effectBy k f c) .entered ≡ f .entered + cond (isCreate k) 1 0
 unfolding effectFrom putProcess putOpens
 effect-entered Login f c q = omega arith
 effect-entered Clone f c q = omega arith
@@ -58,13 +62,13 @@ refused-entered f n = by-test (denies n) (λ h. rw h) (λ h. rw h)
 
 -- whether a call is an accepted create
 abbrev creates : Facility → Call → Bool
-creates f c = accepted f c and isCreate (requestOf (c .request))
+creates f c = accepted f c and isCreate (actionOf (c .request))
 
 call-entered : (f : Facility) (c : Call) → (after f c) .entered ≡ f .entered + cond (creates f c) 1 0
 unfolding after _and_
 call-entered f c =
     by-test (accepted f c)
-    (λ h. rw h (effect-entered (requestOf (c .request)) f c (passed (requestOf (c .request)) (viewOf f c) c (accepted-zero f c h))))
+    (λ h. rw h (effect-entered (actionOf (c .request)) f c (passed (actionOf (c .request)) (viewOf f c) c (accepted-zero f c h))))
     (λ h. rw h (let e = refused-entered f (number f c) in omega arith))
 
 -- an accepted create returns the next number
@@ -91,7 +95,8 @@ run-rising (c ∷ cs) f =
     by-test (creates f c)
     (λ h.
     let d : (after f c) .entered ≡ f .entered + 1 = rw h at e in
-    rw h (rw (create-next f c h) (ap (λ (l : List ℕ). f .entered ∷ l) (subst (λ (n : ℕ). numbersGiven (after f c) cs ≡ upFrom n (length (numbersGiven (after f c) cs))) d r))))
+    rw h (rw (create-next f c h)
+    (ap (λ (l : List ℕ). f .entered ∷ l) (subst (λ (n : ℕ). numbersGiven (after f c) cs ≡ upFrom n (length (numbersGiven (after f c) cs))) d r))))
     (λ h.
     let d : (after f c) .entered ≡ f .entered = rw h at e ∙ omega arith in
     rw h (subst (λ (n : ℕ). numbersGiven (after f c) cs ≡ upFrom n (length (numbersGiven (after f c) cs))) d r))
@@ -106,15 +111,16 @@ later-not-ten : (a b c : Bool) → eqb (ask a 11 (ask b 12 (ask c 13 0))) 10 ≡
 later-not-ten a b c =
     ne-eqb _ 10 (ask-other a 11 _ 10 (omega arith) (ask-other b 12 _ 10 (omega arith) (ask-other c 13 0 10 (omega arith) (omega arith))))
 
-ten-room : (k : Request) (v : View) (c : Call) → PassedTo9 k v c → eqb (numberBy k v c) 10 ≡ not (roomFor k v c)
+ten-room : (k : Action) (v : View) (c : Call) → PassedTo9 k v c → eqb (numberBy k v c) 10 ≡ not (roomFor k v c)
 unfolding numberBy ask
 ten-room k v c q =
     rw (q .one, q .two, q .three, q .four, q .five, q .eight, q .six, q .seven, q .nine)
     (by-test (roomFor k v c)
-    (λ h. rw h (later-not-ten (asked (isSetLevel k) (leb (c .extra) 15)) (not (isNotGranted (answers k v c .combined))) (not (isUndefined (answers k v c .combined)))))
+    (λ h. rw h (later-not-ten (asked (isSetLevel k) (leb (c .extra) 15)) (not (isNotGranted (answers k v c .combined)))
+    (not (isUndefined (answers k v c .combined)))))
     (λ h. rw h))
 
-room-full : (k : Request) (v : View) (c : Call) → roomFor k v c ≡ asked (isCreate k) (ltb (v .entered) mostObjects)
+room-full : (k : Action) (v : View) (c : Call) → roomFor k v c ≡ asked (isCreate k) (ltb (v .entered) mostObjects)
 unfolding roomFor
 room-full k v c = refl
 

@@ -6,11 +6,13 @@ use mathlib.Core.List.{List, [], _∷_}
 use lib.Dec.{ltb}
 use borrow.Author.Tests.{ltb-true, eqb-true}
 use Rattle.rules.specs.Types.{Call, Facility}
-use Rattle.state.specs.Tests.{at, on, or-none, clash, by-test}
+use Rattle.labels.specs.Decisions.{at, on}
+use Rattle.labels.specs.Laws.Decisions.{or-none, clash, by-test}
 use Rattle.rules.specs.Flow.{OnlyWhen}
-use Rattle.rules.specs.Calls.{after, run, trustedLogin, trustedLogins}
+use Rattle.rules.specs.Calls.{after}
+use Rattle.rules.specs.Histories.{run, trustedLogin, trustedLogins, history}
 use Rattle.rules.specs.Setup.{fresh}
-use Rattle.rules.specs.Matter.{Account, start, account, history}
+use Rattle.rules.specs.Matter.{Account, start, account}
 use Rattle.rules.specs.Proofs.Fresh.{Fresh, fresh-setup}
 use Rattle.rules.specs.Proofs.Invariant.{Inv}
 use Rattle.rules.specs.Proofs.Opens.{not-reading, not-writing}

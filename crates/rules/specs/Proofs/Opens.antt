@@ -9,11 +9,14 @@ use lib.ListN.{length, length-set, List·getD-eq-default}
 use native.Mathlib.Omega.{arith}
 use borrow.Author.Tests.{ltb-true, ltb-false, eqb-true}
 use Rattle.rules.specs.Types.{Process, Facility}
-use Rattle.state.specs.Tests.{at, on, or-cases, clash, by-test, by-eq}
-use Rattle.state.specs.Outside.{OnePair, one-pair}
-use Rattle.state.specs.Views.{length-build, at-build, place-below, place-object, place-process, opens-at, opens-put, reading-add, writing-add}
-use Rattle.state.specs.State.{mostProcesses, mostObjects, mostOpens, processOf, runs, labelOf, place, opensOf, reading, writing, addModes, build}
-use Rattle.state.specs.State.{closeObject, closeProcess, copyProcess, putOpens, putMarks}
+use Rattle.labels.specs.Decisions.{at, on}
+use Rattle.labels.specs.Laws.Decisions.{or-cases, clash, by-test, by-eq}
+use Rattle.state.specs.Outside.{OnePair}
+use Rattle.state.specs.Laws.Outside.{one-pair}
+use Rattle.opens.specs.Laws.Opens.{length-build, at-build, place-below, place-object, place-process, reading-add, writing-add}
+use Rattle.state.specs.Laws.ReadBack.{opens-at, opens-put}
+use Rattle.opens.specs.Opens.{mostProcesses, mostObjects, mostOpens, place, reading, writing, addModes, build, closeObject, closeProcess, copyProcess}
+use Rattle.state.specs.State.{processOf, runs, labelOf, opensOf, putOpens, putMarks}
 use Rattle.rules.specs.Matter.{Account}
 use Rattle.rules.specs.Proofs.Invariant.{Knows, Reaches, Inv, inv-opens}
 
@@ -61,9 +64,10 @@ inv-mark f a p t v I hp ht R W =
 pub inv-rule : (f : Facility) (a : Account) (g : ℕ → ℕ) → Inv f a
     → ((p t : ℕ) → p < mostProcesses → t < mostObjects → reading (g (place p t)) ≡ true → MayRead f p t)
     → ((p t : ℕ) → p < mostProcesses → t < mostObjects → writing (g (place p t)) ≡ true → MayWrite f p t)
-    → Inv (putOpens f (build mostOpens g)) a
+    → Inv (putOpens f (build (length (f .opens)) g)) a
 inv-rule f a g I R W =
-    inv-opens f a _ I (length-build mostOpens g)
+    rw (I .sound .shaped .opens)
+    (inv-opens f a _ I (length-build mostOpens g)
     (λ p t h m. by-test (ltb p mostProcesses)
     (λ e. let b = ltb-true p mostProcesses e in R p t b h (rw (
       opens-put f (build mostOpens g) p t h,
@@ -77,7 +81,7 @@ inv-rule f a g I R W =
       at-build mostOpens g (place p t)
           (place-below p t b h),
     ) at m))
-    (λ e. not-writing (outside (build mostOpens g) p t (length-build mostOpens g) e) (rw (opens-put f (build mostOpens g) p t h) at m)))
+    (λ e. not-writing (outside (build mostOpens g) p t (length-build mostOpens g) e) (rw (opens-put f (build mostOpens g) p t h) at m))))
 
 -- marks are added
 pub inv-add : (f : Facility) (a : Account) (p t m : ℕ) → Inv f a → p < mostProcesses → t < mostObjects

@@ -5,34 +5,36 @@ use mathlib.Core.Bool.{true, not}
 use lib.Dec.{leb, ltb}
 use borrow.Author.Tests.{ltb-true, eqb-true, not-true, lt-ltb}
 use Rattle.rules.specs.Types.{Call, Facility}
-use Rattle.state.specs.Tests.{asked, at, on, and-l, and-r, and-i, ask-yes, ask-later, ask-i}
-use Rattle.state.specs.Outcomes.{answersFrom}
-use Rattle.state.specs.State.{mostProcesses, mostObjects}
-use Rattle.state.specs.Answers.{combine, passes, neither-passes, passes-not-granted, passes-undefined, passes-first}
+use Rattle.labels.specs.Decisions.{asked, at, on}
+use Rattle.labels.specs.Laws.Decisions.{and-l, and-r, and-i, ask-yes, ask-later, ask-i}
+use Rattle.answers.specs.Outcomes.{answersFrom}
+use Rattle.opens.specs.Opens.{mostProcesses, mostObjects}
+use Rattle.answers.specs.Answers.{combine, passes}
+use Rattle.answers.specs.Laws.Answers.{neither-passes, passes-not-granted, passes-undefined, passes-first}
 use Rattle.rules.specs.Calls.{accepted}
-use Rattle.rules.specs.Requests.{Request, lastRequest, isAbsent, isNoCondition, isLogin, isClone, isSendSignal, isSetLevel, isCreate, needsObject}
+use Rattle.rules.specs.Requests.{Action, lastRequest, isAbsent, isNoCondition, isLogin, isClone, isSendSignal, isSetLevel, isCreate, needsObject}
 use Rattle.rules.specs.Modules.{View, classIn, macRule, macAnswer, fcAnswer, simAnswer, answers}
 use Rattle.rules.specs.Questions.{inRange, isRunning, isFree, openFor, roomFor, numberBy, number}
 
-pub record Passed (k : Request) (v : View) (c : Call) : Type 0 where
+pub record Passed (k : Action) (v : View) (c : Call) : Type 0 where
   pub known : leb (c .request) lastRequest ≡ true
   pub process : c .process < mostProcesses
   pub cloned : asked (isClone k) (ltb (c .target) mostProcesses) ≡ true
   pub signalled : asked (isSendSignal k) (ltb (c .target) mostProcesses) ≡ true
   pub running : asked (not (isLogin k)) (on (v .caller .running)) ≡ true
-  pub receiver : asked (isSendSignal k) (on (v .receiver .running)) ≡ true
+  pub receiver : asked (isSendSignal k) (on (v .target .receiver .running)) ≡ true
   pub newLogin : asked (isLogin k) (not (on (v .caller .running))) ≡ true
-  pub newClone : asked (isClone k) (not (on (v .receiver .running))) ≡ true
+  pub newClone : asked (isClone k) (not (on (v .target .receiver .running))) ≡ true
   pub user : asked (isLogin k) (ltb (c .extra) (v .users)) ≡ true
   pub kind : asked (isCreate k) (leb (c .extra) 3) ≡ true
-  pub alive : asked (needsObject k (c .extra)) (on (v .object .live)) ≡ true
+  pub alive : asked (needsObject k (c .extra)) (on (v .target .object .live)) ≡ true
   pub class : asked (needsObject k (c .extra)) (not (isAbsent (classIn v c))) ≡ true
   pub opened : asked (needsObject k (c .extra)) (asked (isNoCondition (classIn v c)) (openFor v c)) ≡ true
   pub room : asked (isCreate k) (ltb (v .entered) mostObjects) ≡ true
   pub level : asked (isSetLevel k) (leb (c .extra) 15) ≡ true
   pub answer : passes (answers k v c .combined) ≡ true
 
-pub passed : (k : Request) (v : View) (c : Call) → numberBy k v c ≡ 0 → Passed k v c
+pub passed : (k : Action) (v : View) (c : Call) → numberBy k v c ≡ 0 → Passed k v c
 unfolding numberBy inRange isRunning isFree roomFor
 passed k v c h1 =
     let h2 = ask-later _ _ _ h1 in
@@ -69,7 +71,7 @@ passed k v c h1 =
       answer = neither-passes _ (not-true _ (ask-yes _ _ _ h12)) (not-true _ (ask-yes _ _ _ h13));
     }
 
-pub all-passed : (k : Request) (v : View) (c : Call) → Passed k v c → numberBy k v c ≡ 0
+pub all-passed : (k : Action) (v : View) (c : Call) → Passed k v c → numberBy k v c ≡ 0
 unfolding numberBy inRange isRunning isFree roomFor
 all-passed k v c q =
     ask-i _ _ _ (q .known)
@@ -87,7 +89,7 @@ all-passed k v c q =
     (ask-i _ _ _ (rw (passes-undefined _ (q .answer))) refl))))))))))))
 
 -- with MAC on, its rule granted the call
-pub mac-passed : (k : Request) (v : View) (c : Call) → Passed k v c → on (v .mac) ≡ true → passes (macRule k v c) ≡ true
+pub mac-passed : (k : Action) (v : View) (c : Call) → Passed k v c → on (v .switches .mac) ≡ true → passes (macRule k v c) ≡ true
 unfolding answers answersFrom macAnswer
 mac-passed k v c q m =
     rw m at (passes-first (macAnswer k v c) (combine (fcAnswer k v c) (simAnswer k v c)) (q .answer))

@@ -1,85 +1,113 @@
--- A record that is allowed is the one that is written out for what it enters.
-use Prim.Native.Nat.{ℕ, _<_}
-use mathlib.Core.Path.{_≡_, sym, _∙_}
-use mathlib.Core.Logic.{_≢_}
-use mathlib.Core.Bool.{true, false}
-use lib.Dec.{eqb}
+-- Records: an allowed one is the one that is written out for what it enters; what the questions tell of an accepted one; the kinds by cases.
+use Prim.Native.Nat.{ℕ, _≤_}
+use mathlib.Core.Path.{_≡_, refl, sym, _∙_, ap, subst}
+use mathlib.Core.Bool.{true, false, cond}
+use mathlib.Core.List.{List}
+use lib.Dec.{leb, eqb}
 use native.Mathlib.Omega.{arith}
-use borrow.Author.Tests.{ltb-true, eqb-true, eq-eqb, ne-eqb}
-use Rattle.rules.specs.Types.{Facility}
-use Rattle.state.specs.Tests.{at, and-l, and-r, or-cases, by-eq, ask-yes, ask-later}
-use Rattle.state.specs.State.{mostUsers, mostObjects, blank}
-use Rattle.rules.specs.Setup.{SetupRecord, isSwitches, isUserRecord, isObjectRecord, fits, room, switchesAllowed, userAllowed, objectAllowed, allowed, recordNumber, userEntered, objectEntered, switchesRecord, userRecord, objectRecord}
+use borrow.Author.Tests.{eqb-true, ne-eqb}
+use Rattle.labels.specs.Laws.Decisions.{and-l, and-r, clash, by-eq, ask-yes, ask-later, ask-i}
+use Rattle.rules.specs.Kinds.{SetupRecord, Byte, Zero, Upto, OrUnset, Kind, noKind, kindOf, fits, room, byteAllowed, allowedBy, allowed}
+use Rattle.rules.specs.Kinds.{recordNumber}
 
-pub switches-record : (r : SetupRecord) → isSwitches r ≡ true → switchesAllowed r ≡ true → switchesRecord (blank (r .one) (r .two) (r .three)) ≡ r
-unfolding switchesAllowed blank
-switches-record r k h =
-    let z = and-r _ _ (and-r _ _ (and-r _ _ h)) in
-    λ i. record {
-      kind = sym (eqb-true (r .kind) 3 k) i;
-      one = r .one;
-      two = r .two;
-      three = r .three;
-      four = sym (eqb-true (r .four) 0 (and-l _ _ z)) i;
-      five = sym (eqb-true (r .five) 0 (and-l _ _ (and-r _ _ z))) i;
-      six = sym (eqb-true (r .six) 0 (and-l _ _ (and-r _ _ (and-r _ _ z)))) i;
-      seven = sym (eqb-true (r .seven) 0 (and-r _ _ (and-r _ _ (and-r _ _ z)))) i;
+-- what is kept of a byte, and of a record of kind k: a byte that must be 0 is written as 0, any other as it came
+keptByte : Byte → ℕ → ℕ
+keptByte Zero b = 0
+keptByte (Upto n) b = b
+keptByte (OrUnset n) b = b
+
+unfoldable pub kept : ℕ → SetupRecord → SetupRecord
+unfolding keptByte
+kept k r =
+    record {
+      kind = k;
+      one = keptByte ((kindOf k) .one) (r .one);
+      two = keptByte ((kindOf k) .two) (r .two);
+      three = keptByte ((kindOf k) .three) (r .three);
+      four = keptByte ((kindOf k) .four) (r .four);
+      five = keptByte ((kindOf k) .five) (r .five);
+      six = keptByte ((kindOf k) .six) (r .six);
+      seven = keptByte ((kindOf k) .seven) (r .seven);
     }
 
-pub user-record : (r : SetupRecord) → isUserRecord r ≡ true → userAllowed r ≡ true → userRecord (userEntered r) ≡ r
-unfolding userAllowed
-user-record r k h =
-    let z = and-r _ _ (and-r _ _ (and-r _ _ h)) in
+kept-byte : (d : Byte) (b : ℕ) → byteAllowed d b ≡ true → keptByte d b ≡ b
+unfolding keptByte
+kept-byte Zero b h = sym (eqb-true b 0 h)
+kept-byte (Upto n) b h = refl
+kept-byte (OrUnset n) b h = refl
+
+-- THE LAW of all kinds: of an allowed record nothing is lost
+pub kept-record : (k : ℕ) (r : SetupRecord) → r .kind ≡ k → allowedBy (kindOf k) r ≡ true → kept k r ≡ r
+unfolding allowedBy kept
+kept-record k r e a1 =
+    let a2 = and-r _ _ a1 in
+    let a3 = and-r _ _ a2 in
+    let a4 = and-r _ _ a3 in
+    let a5 = and-r _ _ a4 in
+    let a6 = and-r _ _ a5 in
+    let a7 = and-r _ _ a6 in
     λ i. record {
-      kind = sym (eqb-true (r .kind) 1 k) i;
-      one = r .one;
-      two = r .two;
-      three = r .three;
-      four = sym (eqb-true (r .four) 0 (and-l _ _ z)) i;
-      five = sym (eqb-true (r .five) 0 (and-l _ _ (and-r _ _ z))) i;
-      six = sym (eqb-true (r .six) 0 (and-l _ _ (and-r _ _ (and-r _ _ z)))) i;
-      seven = sym (eqb-true (r .seven) 0 (and-r _ _ (and-r _ _ (and-r _ _ z)))) i;
+      kind = sym e i;
+      one = kept-byte ((kindOf k) .one) (r .one) (and-l _ _ a1) i;
+      two = kept-byte ((kindOf k) .two) (r .two) (and-l _ _ a2) i;
+      three = kept-byte ((kindOf k) .three) (r .three) (and-l _ _ a3) i;
+      four = kept-byte ((kindOf k) .four) (r .four) (and-l _ _ a4) i;
+      five = kept-byte ((kindOf k) .five) (r .five) (and-l _ _ a5) i;
+      six = kept-byte ((kindOf k) .six) (r .six) (and-l _ _ a6) i;
+      seven = kept-byte ((kindOf k) .seven) (r .seven) (and-l _ _ a7) i;
     }
 
-pub object-record : (r : SetupRecord) → isObjectRecord r ≡ true → objectAllowed r ≡ true → objectRecord (objectEntered r) ≡ r
-unfolding objectAllowed
-object-record r k h =
-    let z = and-r _ _ (and-r _ _ (and-r _ _ (and-r _ _ h))) in
-    λ i. record {
-      kind = sym (eqb-true (r .kind) 2 k) i;
-      one = r .one;
-      two = r .two;
-      three = r .three;
-      four = r .four;
-      five = sym (eqb-true (r .five) 0 (and-l _ _ z)) i;
-      six = sym (eqb-true (r .six) 0 (and-l _ _ (and-r _ _ z))) i;
-      seven = sym (eqb-true (r .seven) 0 (and-r _ _ (and-r _ _ z))) i;
-    }
+pub allowed-as : (k : ℕ) (past : List SetupRecord) (r : SetupRecord) → r .kind ≡ k → allowed past r ≡ true → allowedBy (kindOf k) r ≡ true
+unfolding allowed
+allowed-as k past r e h = subst (λ (j : ℕ). allowedBy (kindOf j) r ≡ true) e h
 
--- What the questions 15 to 17 tell of an accepted record, by its kind.
-pub data Accepts (f : Facility) (i : ℕ) (r : SetupRecord) : Type 0 where
-  as-switches : i ≡ 0 → isSwitches r ≡ true → switchesAllowed r ≡ true → Accepts f i r
-  as-user : i ≢ 0 → isSwitches r ≡ false → isUserRecord r ≡ true → f .entered ≡ 0 → f .users < mostUsers → userAllowed r ≡ true → Accepts f i r
-  as-object : i ≢ 0 → isSwitches r ≡ false → isUserRecord r ≡ false → isObjectRecord r ≡ true → f .entered < mostObjects
-      → objectAllowed r ≡ true → Accepts f i r
+-- What the questions tell of an accepted record.
+pub record Accepts (past : List SetupRecord) (r : SetupRecord) : Type 0 where
+  pub fits : fits past r ≡ true
+  pub room : room past r ≡ true
+  pub allowed : allowed past r ≡ true
 
-one-kind : (n a b : ℕ) → a ≢ b → eqb n a ≡ true → eqb n b ≡ false
-one-kind n a b d h = ne-eqb n b (λ e. d (sym (eqb-true n a h) ∙ e))
+pub accepts : (past : List SetupRecord) (r : SetupRecord) → recordNumber past r ≡ 0 → Accepts past r
+unfolding recordNumber
+accepts past r h =
+    let h2 = ask-later _ _ _ h in
+    let h3 = ask-later _ _ _ h2 in
+    record { fits = ask-yes _ _ _ h; room = ask-yes _ _ _ h2; allowed = ask-yes _ _ _ h3 }
 
-pub accepts : (f : Facility) (i : ℕ) (r : SetupRecord) → recordNumber (f .users) (f .entered) i r ≡ 0 → Accepts f i r
-unfolding recordNumber fits room allowed
-accepts f i r h =
-    let q15 = ask-yes _ _ _ h in
-    let q16 = ask-yes _ _ _ (ask-later _ _ _ h) in
-    let q17 = ask-yes _ _ _ (ask-later _ _ _ (ask-later _ _ _ h)) in
-    by-eq i 0
-    (λ z. let k : isSwitches r ≡ true = rw (eq-eqb i 0 z) at q15 in as-switches z k (rw k at q17))
-    (λ z. or-cases _ _ (rw (ne-eqb i 0 z) at q15)
-    (λ a.
-    let k1 = and-l _ _ a in
-    let k3 : isSwitches r ≡ false = one-kind (r .kind) 1 3 (omega arith) k1 in
-    as-user z k3 k1 (eqb-true _ _ (and-r _ _ a)) (ltb-true _ _ (rw k1 at q16)) (rw (k3, k1) at q17))
-    (λ k2.
-    let k3 : isSwitches r ≡ false = one-kind (r .kind) 2 3 (omega arith) k2 in
-    let k1 : isUserRecord r ≡ false = one-kind (r .kind) 2 1 (omega arith) k2 in
-    as-object z k3 k1 k2 (ltb-true _ _ (rw (k1, k2) at q16)) (rw (k3, k1) at q17)))
+pub accepted-number : (past : List SetupRecord) (r : SetupRecord) → Accepts past r → recordNumber past r ≡ 0
+unfolding recordNumber
+accepted-number past r A = ask-i _ _ _ (A .fits) (ask-i _ _ _ (A .room) (ask-i _ _ _ (A .allowed) refl))
+
+-- The kinds by cases: the one place beside the table that lists them. The first record is 3, a later one any other kind of the table.
+pub by-any {ℓ} : {A : Type ℓ} (k : ℕ) → (k ≡ 3 → A) → (k ≡ 1 → A) → (k ≡ 2 → A) → (kindOf k ≡ noKind → A) → A
+unfolding kindOf
+by-any k c3 c1 c2 none =
+    by-eq k 3 c3
+    (λ n3. by-eq k 1 c1
+    (λ n1. by-eq k 2 c2
+    (λ n2. none (rw (ne-eqb k 3 n3, ne-eqb k 1 n1, ne-eqb k 2 n2)))))
+
+pub first-kind : (k : ℕ) → eqb ((kindOf k) .place) 1 ≡ true → k ≡ 3
+unfolding kindOf
+first-kind k h = by-any k (λ e. e) (λ e. no e refl) (λ e. no e refl) (λ z. clash h (ap (λ (d : Kind). eqb (d .place) 1) z))
+  where
+    no : {j : ℕ} → k ≡ j → eqb ((kindOf j) .place) 1 ≡ false → k ≡ 3
+    no {j} e f = clash h (ap (λ (i : ℕ). eqb ((kindOf i) .place) 1) e ∙ f)
+
+pub by-kind {ℓ} : {A : Type ℓ} (k : ℕ) → leb 2 ((kindOf k) .place) ≡ true → (k ≡ 1 → A) → (k ≡ 2 → A) → A
+unfolding kindOf
+by-kind k h c1 c2 =
+    by-any k (λ e. clash h (ap (λ (i : ℕ). leb 2 ((kindOf i) .place)) e)) c1 c2 (λ z. clash h (ap (λ (d : Kind). leb 2 (d .place)) z))
+
+-- no two kinds have one place
+kindAt : ℕ → ℕ
+kindAt p = cond (eqb p 1) 3 (cond (eqb p 2) 1 2)
+
+kind-at : (k : ℕ) → 1 ≤ (kindOf k) .place → kindAt ((kindOf k) .place) ≡ k
+unfolding kindOf kindAt
+kind-at k h =
+    by-any k (λ e. rw e refl) (λ e. rw e refl) (λ e. rw e refl)
+    (λ z. let y : (kindOf k) .place ≡ 0 = ap (λ d. d .place) z in absurd (omega arith))
+
+pub one-place : (j k : ℕ) → 1 ≤ (kindOf j) .place → (kindOf j) .place ≡ (kindOf k) .place → j ≡ k
+one-place j k h e = sym (kind-at j h) ∙ ap kindAt e ∙ kind-at k (omega arith)

@@ -1,5 +1,5 @@
 -- Demand 1: proved.
-use Rattle.state.specs.declared.Outcome.the-variants.{Refused}
+use Rattle.answers.specs.declared.Outcome.the-variants.{Refused}
 use Prim.Native.Nat.{ℕ, _≤_}
 use mathlib.Core.Path.{_≡_, refl}
 use mathlib.Core.Logic.{_≢_}
@@ -8,11 +8,13 @@ use lib.Dec.{eqb}
 use native.Mathlib.Omega.{arith}
 use borrow.Author.Tests.{eqb-true, ne-eqb}
 use Rattle.rules.specs.Types.{Call, Facility}
-use Rattle.state.specs.Tests.{_or_, ask, or-cases, by-test}
-use Rattle.state.specs.Outcomes.{denies, outcomeOf, numberOf, outcome-number}
+use Rattle.labels.specs.Decisions.{_or_, ask}
+use Rattle.labels.specs.Laws.Decisions.{or-cases, by-test}
+use Rattle.answers.specs.Outcomes.{denies, outcomeOf, numberOf}
+use Rattle.answers.specs.Laws.Outcomes.{outcome-number}
 use Rattle.state.specs.State.{putRefusals, counted}
 use Rattle.rules.specs.Calls.{accepted, query, afterRefusal, after}
-use Rattle.rules.specs.Requests.{Request, requestOf}
+use Rattle.rules.specs.Requests.{Action, actionOf}
 use Rattle.rules.specs.Modules.{View, viewOf}
 use Rattle.rules.specs.Promises.{Refusals}
 use Rattle.rules.specs.Questions.{numberBy, number}
@@ -23,7 +25,7 @@ unfolding ask
 ask-most true n r m h k = k
 ask-most false n r m h k = h
 
-largest-number : (k : Request) (v : View) (c : Call) → numberBy k v c ≤ 13
+largest-number : (k : Action) (v : View) (c : Call) → numberBy k v c ≤ 13
 unfolding numberBy
 largest-number k v c =
     ask-most _ 1 _ 13 (omega arith) (ask-most _ 2 _ 13 (omega arith) (ask-most _ 3 _ 13 (omega arith) (ask-most _ 4 _ 13 (omega arith)
@@ -80,7 +82,7 @@ refusals =
       uncounted = uncounted';
       unasked = unasked';
       counts = counts';
-      largest = λ f c. largest-number (requestOf (c .request)) (viewOf f c) c;
+      largest = λ f c. largest-number (actionOf (c .request)) (viewOf f c) c;
       numbered = query-number;
       foretold = λ f c. refl;
     }

@@ -1,7 +1,7 @@
 -- What holds of every facility that a list of calls reaches, whatever its switches: each byte is one that a set-up allows, and the labels of every
 -- process are lawful.
 use Prim.Native.Nat.{ℕ, _≤_, _<_}
-use mathlib.Core.Path.{_≡_, refl, subst⁻¹}
+use mathlib.Core.Path.{_≡_, refl, subst⁻¹, _∙_}
 use mathlib.Core.Bool.{true}
 use mathlib.Core.List.{List, [], _∷_}
 use lib.Dec.{leb}
@@ -9,16 +9,24 @@ use lib.ListN.{length, length-set}
 use native.Mathlib.Omega.{arith}
 use borrow.Author.Tests.{ltb-true, leb-true}
 use Rattle.rules.specs.Types.{Call, Process, User, Object, Facility}
-use Rattle.state.specs.Tests.{_and_, _or_, at, on, and-l, and-r, or-cases, clash, by-test, by-eq}
-use Rattle.state.specs.Views.{user-new, user-old, object-new, object-old, add-object, length-build}
-use Rattle.state.specs.Outcomes.{denies}
-use Rattle.state.specs.State.{mostUsers, mostProcesses, mostObjects, mostOpens, objectIn, processOf, objectOf, userOf, live, closeObject, closeProcess, copyProcess, putProcess, putOpens, putUser, putObject, dropObject, putRefusals, counted, freshProcess, noProcess}
-use Rattle.state.specs.Labels.{Label, lawful, given, ⊑-refl, bottom-least, join-lawful, meet-lawful, level-lawful, lawful-level, unset-level}
-use Rattle.state.specs.Answers.{passes}
-use Rattle.rules.specs.Effects.{openBy, created, effectFrom, effectBy}
-use Rattle.rules.specs.Calls.{accepted, afterRefusal, after, run}
-use Rattle.rules.specs.Requests.{Request, Login, Clone, SendSignal, SetLevel, Terminate, Create, OnObject, Unknown, Class, Absent, Reads, Writes, Both, NoCondition, OpenChange, Keep, Add, Close, CloseAll, requestOf, inDirectory, openChange}
-use Rattle.rules.specs.Setup.{switchesAllowed, userAllowed, objectAllowed, switchesRecord, userRecord, objectRecord}
+use Rattle.labels.specs.Decisions.{_and_, _or_, at, on}
+use Rattle.labels.specs.Laws.Decisions.{and-l, and-r, or-cases, clash, by-test, by-eq}
+use Rattle.state.specs.Laws.ReadBack.{user-new, user-old, object-new, object-old, add-object}
+use Rattle.opens.specs.Laws.Loops.{length-object-closed, length-process-closed, length-process-copied}
+use Rattle.answers.specs.Outcomes.{denies}
+use Rattle.state.specs.State.{mostUsers, objectIn, switchesOf, processOf, objectOf, userOf, live, putProcess, putOpens, putUser, putObject, dropObject}
+use Rattle.state.specs.State.{putRefusals, counted, freshProcess, noProcess, openBy}
+use Rattle.opens.specs.Opens.{mostProcesses, mostObjects, mostOpens}
+use Rattle.labels.specs.Labels.{Label, lawful, given}
+use Rattle.labels.specs.Laws.Labels.{⊑-refl, bottom-least, join-lawful, meet-lawful, level-lawful, lawful-level, unset-level}
+use Rattle.answers.specs.Answers.{passes}
+use Rattle.rules.specs.Effects.{created, effectFrom, effectBy}
+use Rattle.rules.specs.Calls.{accepted, afterRefusal, after}
+use Rattle.rules.specs.Histories.{run}
+use Rattle.rules.specs.Requests.{Action, Login, Clone, SendSignal, SetLevel, Terminate, Create, OnObject, Unknown, Class, Absent, Reads, Writes}
+use Rattle.rules.specs.Requests.{Both, NoCondition, OpenChange, Keep, Add, Close, CloseAll, actionOf, inDirectory, openChange}
+use Rattle.rules.specs.Kinds.{switchesKind, usersKind, objectsKind, allowedBy}
+use Rattle.rules.specs.Setup.{switchesRecord, userRecord, objectRecord}
 use Rattle.rules.specs.Modules.{View, viewOf, classIn, macObject, macRule, moveBy, setLevel, moved, levelled}
 use Rattle.rules.specs.Questions.{number}
 use Rattle.rules.specs.Proofs.Moves.{object-granted}
@@ -33,9 +41,9 @@ pub record LawfulProcess (r : Process) : Type 0 where
 
 pub record Regular (f : Facility) : Type 0 where
   pub sound : Sound f
-  pub switches : switchesAllowed (switchesRecord f) ≡ true
-  pub user : (u : ℕ) → u < f .users → userAllowed (userRecord (userOf f u)) ≡ true
-  pub object : (t : ℕ) → t < f .entered → objectAllowed (objectRecord (objectOf f t)) ≡ true
+  pub switches : allowedBy switchesKind (switchesRecord (switchesOf f)) ≡ true
+  pub user : (u : ℕ) → u < f .users → allowedBy usersKind (userRecord (userOf f u)) ≡ true
+  pub object : (t : ℕ) → t < f .entered → allowedBy objectsKind (objectRecord (objectOf f t)) ≡ true
   pub process : (p : ℕ) → LawfulProcess (processOf f p)
 
 -- each way of changing a facility keeps it
@@ -83,7 +91,7 @@ regular-drop f t R =
       process = R .process;
     }
 
-pub regular-user : (f : Facility) (u : User) → Regular f → f .users < mostUsers → userAllowed (userRecord u) ≡ true → Regular (putUser f u)
+pub regular-user : (f : Facility) (u : User) → Regular f → f .users < mostUsers → allowedBy usersKind (userRecord u) ≡ true → Regular (putUser f u)
 unfolding putUser
 regular-user f u R h a =
     record {
@@ -91,13 +99,13 @@ regular-user f u R h a =
       switches = R .switches;
       user = λ v b.
           by-eq v (f .users)
-          (λ e. subst⁻¹ (λ (k : ℕ). userAllowed (userRecord (userOf (putUser f u) k)) ≡ true) e (rw (user-new f u (R .sound .shaped) h) a))
+          (λ e. subst⁻¹ (λ (k : ℕ). allowedBy usersKind (userRecord (userOf (putUser f u) k)) ≡ true) e (rw (user-new f u (R .sound .shaped) h) a))
           (λ n. rw (user-old f u v n) (R .user v (omega arith)));
       object = R .object;
       process = R .process;
     }
 
-pub regular-object : (f : Facility) (o : Object) → Regular f → f .entered < mostObjects → objectAllowed (objectRecord o) ≡ true
+pub regular-object : (f : Facility) (o : Object) → Regular f → f .entered < mostObjects → allowedBy objectsKind (objectRecord o) ≡ true
     → Regular (putObject f o)
 unfolding putObject
 regular-object f o R h a =
@@ -107,28 +115,28 @@ regular-object f o R h a =
       user = R .user;
       object = λ t b.
           by-eq t (f .entered)
-          (λ e. subst⁻¹ (λ (k : ℕ). objectAllowed (objectRecord (objectOf (putObject f o) k)) ≡ true) e (rw (object-new f o (R .sound .shaped) h) a))
+          (λ e. subst⁻¹ (λ (k : ℕ). allowedBy objectsKind (objectRecord (objectOf (putObject f o) k)) ≡ true) e (rw (object-new f o (R .sound .shaped) h) a))
           (λ n. rw (object-old f o t n) (R .object t (omega arith)));
       process = R .process;
     }
 
 -- what an allowed object's bytes tell
-pub allowed-kind : (o : Object) → objectAllowed (objectRecord o) ≡ true → o .kind ≤ 3
-unfolding objectAllowed
+pub allowed-kind : (o : Object) → allowedBy objectsKind (objectRecord o) ≡ true → o .kind ≤ 3
+unfolding allowedBy
 allowed-kind o h = leb-true _ _ (and-l _ _ h)
 
-pub allowed-label : (o : Object) → objectAllowed (objectRecord o) ≡ true → given (o .label) ≡ true → lawful (o .label) ≡ true
-unfolding objectAllowed
+pub allowed-label : (o : Object) → allowedBy objectsKind (objectRecord o) ≡ true → given (o .label) ≡ true → lawful (o .label) ≡ true
+unfolding allowedBy
 allowed-label o h g =
     or-cases _ _ (and-l _ _ (and-r _ _ h)) (λ e. level-lawful _ e) (λ e. clash g (unset-level _ e))
 
-pub allowed-clearance : (u : User) → userAllowed (userRecord u) ≡ true → lawful (u .clearance) ≡ true
-unfolding userAllowed
+pub allowed-clearance : (u : User) → allowedBy usersKind (userRecord u) ≡ true → lawful (u .clearance) ≡ true
+unfolding allowedBy
 allowed-clearance u h = level-lawful _ (and-l _ _ h)
 
 -- a created object's bytes are allowed
-created-allowed : (r : Process) (e : ℕ) → LawfulProcess r → leb e 3 ≡ true → objectAllowed (objectRecord (created r e)) ≡ true
-unfolding objectAllowed _and_ _or_
+created-allowed : (r : Process) (e : ℕ) → LawfulProcess r → leb e 3 ≡ true → allowedBy objectsKind (objectRecord (created r e)) ≡ true
+unfolding allowedBy _and_ _or_
 created-allowed r e L h = rw (h, lawful-level _ (L .current))
 
 -- the process of a login and that of no process are lawful, and a move keeps that
@@ -150,32 +158,32 @@ move-lawful Both l r h L = record { current = h; readmark = h; writemark = h }
 move-lawful NoCondition l r h L = L
 
 -- the caller's process after an accepted call
-moved-lawful : (v : View) (c : Call) → LawfulProcess (v .caller) → objectAllowed (objectRecord (v .object)) ≡ true
-    → (on (v .mac) ≡ true → passes (macObject (classIn v c) (v .object) (v .caller) (v .owner)) ≡ true) → LawfulProcess (moved v c)
+moved-lawful : (v : View) (c : Call) → LawfulProcess (v .caller) → allowedBy objectsKind (objectRecord (v .target .object)) ≡ true
+    → (on (v .switches .mac) ≡ true → passes (macObject (classIn v c) (v .target .object) (v .caller) (v .owner)) ≡ true) → LawfulProcess (moved v c)
 unfolding moved _and_
 moved-lawful v c L a p =
-    by-test (on (v .mac))
+    by-test (on (v .switches .mac))
     (λ m. by-test (on (v .owner .trusted))
     (λ t. rw (m, t) L)
     (λ t.
-    let (g, q) = object-granted (classIn v c) (v .object) (v .caller) (v .owner) t (p m) in
-    rw (m, t) (move-lawful _ _ _ (allowed-label (v .object) a g) L)))
+    let (g, q) = object-granted (classIn v c) (v .target .object) (v .caller) (v .owner) t (p m) in
+    rw (m, t) (move-lawful _ _ _ (allowed-label (v .target .object) a g) L)))
     (λ m. rw m L)
 
 levelled-lawful : (v : View) (c : Call) → LawfulProcess (v .caller) → leb (c .extra) 15 ≡ true → LawfulProcess (levelled v c)
 unfolding levelled setLevel
 levelled-lawful v c L h =
-    by-test (on (v .mac))
+    by-test (on (v .switches .mac))
     (λ m. rw m (record { current = level-lawful _ h; readmark = L .readmark; writemark = L .writemark }))
     (λ m. rw m L)
 
 -- what a request on an object does to the opens keeps it
 regular-open : (o : OpenChange) (f : Facility) (p t : ℕ) → Regular f → Regular (openBy o f p t)
-unfolding openBy closeObject
+unfolding openBy
 regular-open Keep f p t R = R
 regular-open (Add m) f p t R = regular-opens f _ (simp length-set (R .sound .shaped .opens)) R
 regular-open Close f p t R = regular-opens f _ (simp length-set (R .sound .shaped .opens)) R
-regular-open CloseAll f p t R = regular-drop _ t (regular-opens f _ (length-build mostOpens _) R)
+regular-open CloseAll f p t R = regular-drop _ t (regular-opens f _ (length-object-closed _ _ ∙ R .sound .shaped .opens) R)
 
 put-entered : (f : Facility) (p : ℕ) (r : Process) → (putProcess f p r) .entered ≡ f .entered
 unfolding putProcess
@@ -183,7 +191,7 @@ put-entered f p r = refl
 
 -- every accepted call keeps it
 module _ (f : Facility) (c : Call) (R : Regular f) where
-  object-there : live f (c .target) ≡ true → objectAllowed (objectRecord (objectOf f (c .target))) ≡ true
+  object-there : live f (c .target) ≡ true → allowedBy objectsKind (objectRecord (objectOf f (c .target))) ≡ true
   object-there h = R .object (c .target) (R .sound .alive (c .target) h)
 
   regular-create : Passed Create (viewOf f c) c → Regular (effectBy Create f c)
@@ -193,7 +201,8 @@ module _ (f : Facility) (c : Call) (R : Regular f) where
       (λ e.
       let a = object-there (rw e at (q .alive)) in
       let L = moved-lawful (viewOf f c) c (R .process (c .process)) a (λ m. rw e at (mac-passed Create (viewOf f c) c q m)) in
-      let h : (putProcess f (c .process) (moved (viewOf f c) c)) .entered < mostObjects = rw (put-entered f (c .process) (moved (viewOf f c) c)) (ltb-true _ _ (q .room)) in
+      let h : (putProcess f (c .process) (moved (viewOf f c) c)) .entered < mostObjects
+      = rw (put-entered f (c .process) (moved (viewOf f c) c)) (ltb-true _ _ (q .room)) in
       rw (e, add-object (putProcess f (c .process) (moved (viewOf f c) c)) (created (moved (viewOf f c) c) (c .extra)) h)
       (regular-object _ _ (regular-process f (c .process) _ R (q .process) L) h (created-allowed _ (c .extra) L (q .kind))))
       (λ e. rw (e, add-object f (created (viewOf f c .caller) (c .extra)) (ltb-true _ _ (q .room)))
@@ -206,17 +215,18 @@ module _ (f : Facility) (c : Call) (R : Regular f) where
       let L = moved-lawful (viewOf f c) c (R .process (c .process)) a (λ m. mac-passed OnObject (viewOf f c) c q m) in
       regular-open (openChange (c .request)) _ (c .process) (c .target) (regular-process f (c .process) _ R (q .process) L)
 
-  regular-effect : (k : Request) → Passed k (viewOf f c) c → Regular (effectBy k f c)
-  unfolding effectFrom copyProcess closeProcess closeObject
+  regular-effect : (k : Action) → Passed k (viewOf f c) c → Regular (effectBy k f c)
+  unfolding effectFrom
   regular-effect Login q = regular-process f (c .process) _ R (q .process) (fresh-lawful (c .extra))
   regular-effect Clone q =
-      regular-opens _ _ (length-build mostOpens _)
+      regular-opens _ _ (length-process-copied _ _ _ ∙ R .sound .shaped .opens)
       (regular-process f (c .target) _ R (ltb-true _ _ (q .cloned)) (R .process (c .process)))
   regular-effect SendSignal q = R
   regular-effect SetLevel q =
       regular-process f (c .process) _ R (q .process) (levelled-lawful (viewOf f c) c (R .process (c .process)) (q .level))
   regular-effect Terminate q =
-      regular-opens _ _ (length-build mostOpens _) (regular-process f (c .process) _ R (q .process) none-lawful)
+      regular-opens _ _ (length-process-closed _ _ ∙ R .sound .shaped .opens)
+      (regular-process f (c .process) _ R (q .process) none-lawful)
   regular-effect Create q = regular-create q
   regular-effect OnObject q = regular-object-call q
   regular-effect Unknown q = R
@@ -229,7 +239,7 @@ pub regular-after : (f : Facility) (c : Call) → Regular f → Regular (after f
 unfolding after
 regular-after f c R =
     by-test (accepted f c)
-    (λ h. rw h (regular-effect f c R (requestOf (c .request)) (passed (requestOf (c .request)) (viewOf f c) c (accepted-zero f c h))))
+    (λ h. rw h (regular-effect f c R (actionOf (c .request)) (passed (actionOf (c .request)) (viewOf f c) c (accepted-zero f c h))))
     (λ h. rw h (regular-refused f (number f c) R))
 
 pub regular-run : (cs : List Call) (f : Facility) → Regular f → Regular (run f cs)

@@ -8,12 +8,15 @@ use lib.ListN.{length, set, replicate, length-replicate}
 use lib.Seq.{getD-set-same, getD-set-other, set-out}
 use native.Mathlib.Omega.{arith}
 use borrow.Author.Tests.{ltb-true, ltb-false}
-use Rattle.rules.specs.Types.{Process, User, Object, Facility}
-use Rattle.state.specs.Tests.{at, on, clash, by-test, by-eq}
-use Rattle.state.specs.Views.{Shaped, object-old, shaped-process, shaped-opens, shaped-user, shaped-object, shaped-drop, shaped-refusals}
-use Rattle.state.specs.State.{mostUsers, mostProcesses, mostObjects, mostOpens, processIn, objectIn, processOf, live, markPlace, opensOf, putProcess}
-use Rattle.state.specs.State.{putOpens, putUser, putObject, dropObject, putRefusals, noProcess, blank}
-use Rattle.state.specs.Labels.{label, bottom}
+use Rattle.rules.specs.Types.{Switches, Process, User, Object, Facility}
+use Rattle.labels.specs.Decisions.{at, on}
+use Rattle.labels.specs.Laws.Decisions.{clash, by-test, by-eq}
+use Rattle.state.specs.Shaped.{Shaped}
+use Rattle.state.specs.Laws.ReadBack.{object-old, shaped-process, shaped-opens, shaped-user, shaped-object, shaped-drop, shaped-refusals}
+use Rattle.state.specs.State.{mostUsers, processIn, objectIn, processOf, live, opensOf, putProcess, putOpens, putUser, putObject, dropObject, putRefusals}
+use Rattle.state.specs.State.{noProcess, blank}
+use Rattle.opens.specs.Opens.{mostProcesses, mostObjects, mostOpens, markPlace}
+use Rattle.labels.specs.Labels.{label, bottom}
 
 pub record Sound (f : Facility) : Type 0 where
   pub shaped : Shaped f
@@ -84,9 +87,9 @@ at-zeros (suc n) (suc i) = at-zeros n i
 zeros-length : (n : ℕ) → length {A = ℕ} (replicate n 0) ≡ n
 zeros-length n = length-replicate {A = ℕ} n 0
 
-pub sound-blank : (mac fc sim : ℕ) → Sound (blank mac fc sim)
+pub sound-blank : (s : Switches) → Sound (blank s)
 unfolding blank objectIn
-sound-blank mac fc sim =
+sound-blank s =
     record {
       shaped = record {
         users = record { clearances = zeros-length mostUsers; roles = zeros-length mostUsers; trusts = zeros-length mostUsers };
@@ -113,13 +116,13 @@ sound-blank mac fc sim =
     }
 
 -- a blank facility has no open, and each of its process numbers is that of no process
-pub blank-closed : (mac fc sim p t : ℕ) → opensOf (blank mac fc sim) p t ≡ 0
+pub blank-closed : (s : Switches) (p t : ℕ) → opensOf (blank s) p t ≡ 0
 unfolding blank opensOf
-blank-closed mac fc sim p t = at-zeros mostOpens (markPlace p t)
+blank-closed s p t = at-zeros mostOpens (markPlace p t)
 
-pub blank-process : (mac fc sim p : ℕ) → processOf (blank mac fc sim) p ≡ noProcess
+pub blank-process : (s : Switches) (p : ℕ) → processOf (blank s) p ≡ noProcess
 unfolding blank noProcess bottom processIn
-blank-process mac fc sim p =
+blank-process s p =
     λ i. record {
       running = at-zeros mostProcesses p i;
       owner = at-zeros mostProcesses p i;

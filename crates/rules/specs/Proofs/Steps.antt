@@ -1,24 +1,28 @@
 -- The invariant is kept by every accepted call, by kind of request, and by every refused one.
-use Prim.Native.Nat.{ℕ, _/_, _<_}
+use Prim.Native.Nat.{ℕ, _<_}
 use mathlib.Core.Path.{_≡_, refl, sym, _∙_, subst}
 use mathlib.Core.Logic.{_≢_}
-use mathlib.Core.Bool.{Bool, true, false, not, cond}
-use mathlib.Core.List.{List}
+use mathlib.Core.Bool.{Bool, true, false, not}
 use lib.Dec.{eqb}
 use native.Mathlib.Omega.{arith}
 use borrow.Author.Tests.{ltb-true, eqb-true, not-true, eq-eqb, ne-eqb}
 use Rattle.rules.specs.Types.{Call, Process, Facility}
-use Rattle.state.specs.Tests.{_and_, at, clash, by-test}
-use Rattle.state.specs.Views.{process-same, process-other, add-object, at-build, place-below, place-process, opens-put}
-use Rattle.state.specs.Outcomes.{denies}
-use Rattle.state.specs.State.{mostProcesses, mostObjects, mostOpens, processOf, runs, live, trustedUser, labelOf, place, opensOf, reading, writing}
-use Rattle.state.specs.State.{closeProcess, putProcess, putOpens, freshProcess, noProcess}
-use Rattle.state.specs.Labels.{Label, given, _⊑_, ⊑-refl, ⊑-trans, bottom-least}
-use Rattle.state.specs.Answers.{passes, passes-grant}
-use Rattle.rules.specs.Effects.{openBy, created, effectFrom, effectBy}
-use Rattle.rules.specs.Calls.{accepted, afterRefusal, after, trustedLogin}
-use Rattle.rules.specs.Requests.{Request, Login, Clone, SendSignal, SetLevel, Terminate, Create, OnObject, Unknown, Class, Absent, Reads, Writes}
-use Rattle.rules.specs.Requests.{Both, NoCondition, OpenChange, Keep, Add, Close, CloseAll, requestOf, isAbsent, isNoCondition, alters, isLogin}
+use Rattle.labels.specs.Decisions.{_and_, at}
+use Rattle.labels.specs.Laws.Decisions.{clash, by-test}
+use Rattle.state.specs.Laws.ReadBack.{process-same, process-other, add-object, opens-put}
+use Rattle.opens.specs.Laws.Opens.{terminated-opens}
+use Rattle.answers.specs.Outcomes.{denies}
+use Rattle.opens.specs.Opens.{mostProcesses, mostObjects, reading, writing, closeProcess}
+use Rattle.state.specs.State.{processOf, runs, live, trustedUser, labelOf, opensOf, putProcess, putOpens, freshProcess, noProcess, openBy}
+use Rattle.labels.specs.Labels.{Label, given, _⊑_}
+use Rattle.labels.specs.Laws.Labels.{⊑-refl, ⊑-trans, bottom-least}
+use Rattle.answers.specs.Answers.{passes}
+use Rattle.answers.specs.Laws.Answers.{passes-grant}
+use Rattle.rules.specs.Effects.{created, effectFrom, effectBy}
+use Rattle.rules.specs.Calls.{accepted, afterRefusal, after}
+use Rattle.rules.specs.Histories.{trustedLogin}
+use Rattle.rules.specs.Requests.{Action, Login, Clone, SendSignal, SetLevel, Terminate, Create, OnObject, Unknown, Class, Absent, Reads, Writes}
+use Rattle.rules.specs.Requests.{Both, NoCondition, OpenChange, Keep, Add, Close, CloseAll, actionOf, isAbsent, isNoCondition, alters, isLogin}
 use Rattle.rules.specs.Requests.{inDirectory, openChange}
 use Rattle.rules.specs.Matter.{nothing, Account, processGains, objectGains, assign, takes, gives, carry, carryBy, afterEntry}
 use Rattle.rules.specs.Modules.{viewOf, classIn, macObject, macRule, moved, levelled}
@@ -86,15 +90,6 @@ step-clone f a c I q =
     apart : p ≢ t
     apart e = clash (subst (λ (x : ℕ). runs f x ≡ true) e (q .running)) stopped
 
-closed-process : (l : List ℕ) (p t : ℕ) → p < mostProcesses → t < mostObjects → at (closeProcess l p) (place p t) ≡ 0
-unfolding closeProcess
-closed-process l p t h k =
-    rw (
-      at-build mostOpens (λ i. cond (eqb (i / mostObjects) p) 0 (at l i)) (place p t) (place-below p t h k),
-      eq-eqb (place p t / mostObjects) p
-          (place-process p t k),
-    )
-
 step-terminate : (f : Facility) (a : Account) (c : Call) → Inv f a → Passed Terminate (viewOf f c) c → Inv (effectBy Terminate f c) (carryBy Terminate a c)
 unfolding effectFrom carryBy putProcess putOpens opensOf noProcess
 step-terminate f a c I q =
@@ -110,7 +105,8 @@ step-terminate f a c I q =
     })
   where
     gone : (t : ℕ) → t < mostObjects → opensOf (putOpens f (closeProcess (f .opens) (c .process))) (c .process) t ≡ 0
-    gone t h = opens-put f (closeProcess (f .opens) (c .process)) (c .process) t h ∙ closed-process (f .opens) (c .process) t (q .process) h
+    gone t h = opens-put f (closeProcess (f .opens) (c .process)) (c .process) t h
+        ∙ rw (terminated-opens (f .opens) (c .process) (c .process) t (I .sound .shaped .opens) (q .process) h, eq-eqb (c .process) (c .process) refl)
 
 step-set-level : (f : Facility) (a : Account) (c : Call) → Inv f a → Passed SetLevel (viewOf f c) c → Inv (effectBy SetLevel f c) (carryBy SetLevel a c)
 unfolding effectFrom carryBy macRule
@@ -126,7 +122,7 @@ record Granted-on (f : Facility) (c : Call) : Type 0 where
   over : alters (classIn (viewOf f c) c) ≡ true → ((moved (viewOf f c) c) .readmark) ⊑ labelOf f (c .target)
 
 granted-on : (f : Facility) (a : Account) (c : Call) → Inv f a → runs f (c .process) ≡ true
-    → passes (macObject (classIn (viewOf f c) c) (viewOf f c .object) (viewOf f c .caller) (viewOf f c .owner)) ≡ true → Granted-on f c
+    → passes (macObject (classIn (viewOf f c) c) (viewOf f c .target .object) (viewOf f c .caller) (viewOf f c .owner)) ≡ true → Granted-on f c
 granted-on f a c I r h =
     let u = I .process (c .process) .owner r in
     let o = I .process (c .process) .ordered r in
@@ -193,7 +189,7 @@ gives-over Writes r l s w n h = w refl
 gives-over Both r l s w n h = clash h refl
 gives-over NoCondition r l s w n h = n refl h
 
-step-create : (f : Facility) (a : Account) (c : Call) → Inv f a → requestOf (c .request) ≡ Create → Passed Create (viewOf f c) c
+step-create : (f : Facility) (a : Account) (c : Call) → Inv f a → actionOf (c .request) ≡ Create → Passed Create (viewOf f c) c
     → Inv (effectBy Create f c) (carryBy Create a c)
 unfolding effectFrom carryBy macRule putProcess
 step-create f a c I k q =
@@ -276,7 +272,7 @@ step-target f a c I q =
     (open-kept f a c I q G (openChange (c .request)) refl)
 
 -- every accepted call, by kind of request
-step : (k : Request) (f : Facility) (a : Account) (c : Call) → Inv f a → requestOf (c .request) ≡ k → (isLogin k and trustedUser f (c .extra)) ≡ false
+step : (k : Action) (f : Facility) (a : Account) (c : Call) → Inv f a → actionOf (c .request) ≡ k → (isLogin k and trustedUser f (c .extra)) ≡ false
     → Passed k (viewOf f c) c → Inv (effectBy k f c) (carryBy k a c)
 unfolding effectFrom carryBy _and_
 step Login f a c I e u q = step-login f a c I q u
@@ -294,5 +290,5 @@ pub inv-after : (f : Facility) (a : Account) (c : Call) → Inv f a → trustedL
 unfolding after afterEntry trustedLogin afterRefusal _and_
 inv-after f a c I u =
     by-test (accepted f c)
-    (λ h. rw h (step (requestOf (c .request)) f a c I refl (rw h at u) (passed (requestOf (c .request)) (viewOf f c) c (accepted-zero f c h))))
+    (λ h. rw h (step (actionOf (c .request)) f a c I refl (rw h at u) (passed (actionOf (c .request)) (viewOf f c) c (accepted-zero f c h))))
     (λ h. rw h (by-test (denies (number f c)) (λ e. rw e (inv-counted f a I)) (λ e. rw e I)))

@@ -7,20 +7,26 @@ use lib.Dec.{leb, eqb}
 use lib.ListN.{length, length-set}
 use borrow.Author.Tests.{eqb-true, eq-eqb}
 use Rattle.rules.specs.Types.{Call, Process, Facility}
-use Rattle.state.specs.Tests.{_and_, _or_, asked, on, or-l, or-r, clash, by-test}
-use Rattle.state.specs.Outside.{one-pair}
-use Rattle.state.specs.Views.{Shaped, process-same, shaped-process, shaped-opens, reading-add, writing-add}
-use Rattle.state.specs.Outcomes.{answersFrom}
-use Rattle.state.specs.State.{mostProcesses, mostObjects, mostOpens, processOf, objectOf, userOf, live, trustedUser, labelOf, clearanceOf, opensOf, reading}
-use Rattle.state.specs.State.{writing, addModes, putProcess, putOpens}
-use Rattle.state.specs.Labels.{Label, given}
-use Rattle.state.specs.Answers.{passes, combine-not-cared}
-use Rattle.rules.specs.Effects.{openBy, effectFrom, effectBy}
-use Rattle.rules.specs.Calls.{accepted, after, trustedLogin, trustedLogins}
-use Rattle.rules.specs.Requests.{Request, OnObject, Class, Absent, Reads, Writes, Both, NoCondition, OpenChange, Keep, Add, Close, CloseAll}
-use Rattle.rules.specs.Requests.{lastRequest, requestOf, classOf, isAbsent, isNoCondition, isLogin, openChange}
-use Rattle.rules.specs.Matter.{Account, processGains, objectGains, takes, gives, carry, carryBy, afterEntry, account, history}
-use Rattle.rules.specs.Modules.{viewOf, classIn, macClass, macObject, macRule, macAnswer, fcAnswer, simAnswer, answers, moveBy, moved}
+use Rattle.labels.specs.Decisions.{_and_, _or_, asked, on}
+use Rattle.labels.specs.Laws.Decisions.{or-l, or-r, clash, by-test}
+use Rattle.state.specs.Laws.Outside.{one-pair}
+use Rattle.state.specs.Shaped.{Shaped}
+use Rattle.state.specs.Laws.ReadBack.{process-same, shaped-process, shaped-opens}
+use Rattle.opens.specs.Laws.Opens.{reading-add, writing-add}
+use Rattle.answers.specs.Outcomes.{answersFrom}
+use Rattle.opens.specs.Opens.{mostProcesses, mostObjects, mostOpens, reading, writing, addModes}
+use Rattle.state.specs.State.{switchesOf, processOf, objectOf, userOf, live, trustedUser, labelOf, clearanceOf, opensOf, putProcess, putOpens, openBy}
+use Rattle.labels.specs.Labels.{Label, given}
+use Rattle.answers.specs.Answers.{passes}
+use Rattle.answers.specs.Laws.Answers.{combine-not-cared}
+use Rattle.rules.specs.Flow.{MacAlone}
+use Rattle.rules.specs.Effects.{effectFrom, effectBy}
+use Rattle.rules.specs.Calls.{accepted, after}
+use Rattle.rules.specs.Histories.{trustedLogin, trustedLogins, history}
+use Rattle.rules.specs.Requests.{Action, OnObject, Class, Absent, Reads, Writes, Both, NoCondition, OpenChange, Keep, Add, Close, CloseAll}
+use Rattle.rules.specs.Requests.{lastRequest, actionOf, classOf, isAbsent, isNoCondition, isLogin, openChange}
+use Rattle.rules.specs.Matter.{Account, processGains, objectGains, takes, gives, carry, carryBy, afterEntry, account}
+use Rattle.rules.specs.Modules.{View, viewOf, classIn, macClass, macObject, macRule, macAnswer, fcAnswer, simAnswer, answers, moveBy, moved}
 use Rattle.rules.specs.Questions.{openFor, numberBy}
 use Rattle.rules.specs.Proofs.Passed.{all-passed}
 
@@ -51,13 +57,16 @@ move-owner Writes l r = refl
 move-owner Both l r = refl
 move-owner NoCondition l r = refl
 
+-- with MAC on alone the combined answer is MAC's
+pub alone-is : (k : Action) (v : View) (c : Call) → MacAlone (v .switches) → answers k v c .combined ≡ macRule k v c
+unfolding answers answersFrom macAnswer fcAnswer simAnswer _and_
+alone-is k v c A = rw (A .mac, A .fc, A .sim) (combine-not-cared _)
+
 -- a state on the way, from the set-up's facility f₀: MAC alone is on, the objects are those of f₀, process p is r and its owner u
 pub record Scene (p : ℕ) (f₀ f : Facility) (a : Account) (u : ℕ) (r : Process) : Type 0 where
   pub small : p < mostProcesses
   pub shaped : Shaped f
-  pub mac : on (f .mac) ≡ true
-  pub fc : on (f .fc) ≡ false
-  pub sim : on (f .sim) ≡ false
+  pub alone : MacAlone (switchesOf f)
   pub objects : (t : ℕ) → objectOf f t ≡ objectOf f₀ t
   pub user : userOf f u ≡ userOf f₀ u
   pub untrusted : trustedUser f₀ u ≡ false
@@ -68,7 +77,7 @@ pub record Scene (p : ℕ) (f₀ f : Facility) (a : Account) (u : ℕ) (r : Proc
 
 -- what request q of class k by process p, which is r, on object t needs
 pub record Allowed (p : ℕ) (f₀ f : Facility) (u : ℕ) (r : Process) (q t : ℕ) (k : Class) : Type 0 where
-  pub target : requestOf q ≡ OnObject
+  pub target : actionOf q ≡ OnObject
   pub known : leb q lastRequest ≡ true
   pub alive : live f₀ t ≡ true
   pub class : classOf q ((objectOf f₀ t) .kind) ≡ k
@@ -89,8 +98,8 @@ module _ (p : ℕ) (f₀ f : Facility) (a : Account) (u : ℕ) (r : Process) (q 
   mac-passes = rw (S .untrusted, A .labelled) (A .granted)
 
   combined-is : answers OnObject (viewOf f (by p q t)) (by p q t) .combined ≡ macObject k (objectOf f₀ t) r (userOf f₀ u)
-  unfolding answers answersFrom macAnswer fcAnswer simAnswer macRule _and_
-  combined-is = rw (S .mac, S .fc, S .sim, class-is, S .process, owner-is, S .objects t) (combine-not-cared _)
+  unfolding macRule
+  combined-is = alone-is OnObject (viewOf f (by p q t)) (by p q t) (S .alone) ∙ rw (class-is, S .process, owner-is, S .objects t)
 
   number-is : numberBy OnObject (viewOf f (by p q t)) (by p q t) ≡ 0
   number-is =
@@ -120,7 +129,7 @@ module _ (p : ℕ) (f₀ f : Facility) (a : Account) (u : ℕ) (r : Process) (q 
 
   moved-to : moved (viewOf f (by p q t)) (by p q t) ≡ moveBy k (labelOf f₀ t) r
   unfolding moved _and_
-  moved-to = rw (class-is, S .process, owner-is, S .untrusted, S .objects t, S .mac)
+  moved-to = rw (class-is, S .process, owner-is, S .untrusted, S .objects t, S .alone .mac)
 
   -- the account after the call
   carried-is : carryBy OnObject a (by p q t) ≡ carry k a (by p q t)
@@ -144,9 +153,7 @@ module _ (p : ℕ) (f₀ f : Facility) (a : Account) (u : ℕ) (r : Process) (q 
       record {
         small = S .small;
         shaped = shaped-process f p _ (S .shaped);
-        mac = S .mac;
-        fc = S .fc;
-        sim = S .sim;
+        alone = S .alone;
         objects = S .objects;
         user = S .user;
         untrusted = S .untrusted;
@@ -164,9 +171,7 @@ scene-opens p f₀ f a u r l e S =
     record {
       small = S .small;
       shaped = shaped-opens f l e (S .shaped);
-      mac = S .mac;
-      fc = S .fc;
-      sim = S .sim;
+      alone = S .alone;
       objects = S .objects;
       user = S .user;
       untrusted = S .untrusted;
@@ -190,22 +195,22 @@ pub record Reach (f : Facility) (a : Account) (cs : List Call) (b x : ℕ) : Typ
   pub untrusted : trustedLogins f cs ≡ false
   pub holding : (account a (history f cs)) .objects b x ≡ true
 
-after-is : (f : Facility) (c : Call) (k : Request) → requestOf (c .request) ≡ k → accepted f c ≡ true → after f c ≡ effectBy k f c
+after-is : (f : Facility) (c : Call) (k : Action) → actionOf (c .request) ≡ k → accepted f c ≡ true → after f c ≡ effectBy k f c
 unfolding after
 after-is f c k e h = rw (h, e)
 
-recorded-is : (f : Facility) (a : Account) (c : Call) (k : Request) → requestOf (c .request) ≡ k → accepted f c ≡ true
+recorded-is : (f : Facility) (a : Account) (c : Call) (k : Action) → actionOf (c .request) ≡ k → accepted f c ≡ true
     → afterEntry a (record { call = c; accepted = accepted f c }) ≡ carryBy k a c
 unfolding afterEntry
 recorded-is f a c k e h = rw (h, e)
 
-login-is : (f : Facility) (c : Call) (k : Request) → requestOf (c .request) ≡ k → accepted f c ≡ true → (isLogin k and trustedUser f (c .extra)) ≡ false
+login-is : (f : Facility) (c : Call) (k : Action) → actionOf (c .request) ≡ k → accepted f c ≡ true → (isLogin k and trustedUser f (c .extra)) ≡ false
     → trustedLogin f c ≡ false
 unfolding trustedLogin _and_
 login-is f c k e h u = rw (h, e) u
 
 -- an accepted call, and what is reached after it
-pub reach-call : (f : Facility) (a : Account) (c : Call) (k : Request) (cs : List Call) (b x : ℕ) → requestOf (c .request) ≡ k → accepted f c ≡ true
+pub reach-call : (f : Facility) (a : Account) (c : Call) (k : Action) (cs : List Call) (b x : ℕ) → actionOf (c .request) ≡ k → accepted f c ≡ true
     → (isLogin k and trustedUser f (c .extra)) ≡ false
     → Reach (effectBy k f c) (carryBy k a c) cs b x → Reach f a (c ∷ cs) b x
 unfolding trustedLogins account history _or_

@@ -1,7 +1,8 @@
+-- The tests as they stand in the definition.
 use Rattle.setup.proofs.allowed_length.Statement.{statement}
 use Rattle.setup.proofs.allowed_length.Tie as tie
 use mathlib.Core.Path.{refl}
-use Rattle.state.specs.Tests.{_and_}
+use Rattle.labels.specs.Decisions.{_and_}
 use Rattle.rules.specs.Setup.{allowedLength}
 
 returns : tie.Need-returns

@@ -1,20 +1,19 @@
+-- The section so far, and the next object, where it is live, stored behind it.
 use Rattle.setup.proofs.put_objects.Statement.{statement}
 use Rattle.setup.proofs.put_objects.Tie as tie
-use Prim.Native.Nat.{ℕ, _+_, _-_, _≤_}
-use mathlib.Core.Path.{_≡_, refl, sym, _∙_, ap}
-use mathlib.Core.List.{List}
-use lib.ListN.{length}
-use lib.Seq.{sets, length-sets}
+use Prim.Native.Nat.{ℕ, _-_, _≤_}
+use mathlib.Core.Path.{_≡_, subst}
 use native.Mathlib.Omega.{arith}
 use borrow.Author.Needs.{needs}
 use Rattle.state.specs.declared.Object.{Object}
-use Rattle.state.specs.State.{objectsFrom}
-use Rattle.setup.specs.Stored.{objectBytes, liveBytes, objects-none, store-object, object-place, object-fits}
+use Rattle.state.specs.State.{objectIn, objectsFrom}
+use Rattle.rules.specs.Setup.{objectRecord}
+use Rattle.setup.specs.Writing.{Stored, liveIn, objectRecords, liveRecord}
+use Rattle.setup.specs.Laws.WritingLoop.{section-begins, section-goes-on, section-most, stored-length}
 
 abbrev Inv-loop : tie.InvT-loop
-Inv-loop out₀ start lives kinds levels categories datatypes n place₀ k₀ out place k = (k ≤ n) × (length out ≡ length out₀) ×
-    (place ≡ start + length (objectBytes k (objectsFrom lives kinds levels categories datatypes))) ×
-    (out ≡ sets out₀ start (objectBytes k (objectsFrom lives kinds levels categories datatypes)))
+Inv-loop out₀ start lives kinds levels categories datatypes n place₀ k₀ out place k =
+    (k ≤ n) × Stored out₀ start (objectRecords k (objectsFrom lives kinds levels categories datatypes)) out place
 
 abbrev μ-loop : tie.MeasureT-loop
 μ-loop out₀ start lives kinds levels categories datatypes n place₀ k₀ out place k = n - k
@@ -22,60 +21,43 @@ abbrev μ-loop : tie.MeasureT-loop
 loop-holds : tie.Need-loop-holds Inv-loop μ-loop
 loop-holds c =
     let a = c .before .before .before .before .before .before .args in
-    let z = objects-none (objectsFrom (a .lives .now) (a .kinds .now) (a .levels .now) (a .categories .now) (a .datatypes .now)) in (
-      search needs,
-      refl,
-      (let s : a .start ≡ a .start + 0 = omega arith in s ∙ ap (λ (q : List ℕ). a .start + length q) (sym z)),
-      sym (ap (λ (q : List ℕ). sets (a .out .now) (a .start) q) z),
-    )
+    let x = objectsFrom (a .lives .now) (a .kinds .now) (a .levels .now) (a .categories .now) (a .datatypes .now) in
+    (search needs, section-begins objectRecord (liveIn x) (objectIn x) (a .out .now) (a .start))
 
-cast-object-at : tie.Need-cast-object-at Inv-loop μ-loop
-cast-object-at c = search needs
-
-object-at-requires : tie.Need-object-at-requires Inv-loop μ-loop
-object-at-requires c κs = search needs
-
-put-object-requires : tie.Need-put-object-requires Inv-loop μ-loop
-put-object-requires c κs =
-    let l = c .before .before .before .loop in
-    let b = c .before .before .before .before .before .before .before .before .before .before in
+put-live-requires : tie.Need-put-live-requires Inv-loop μ-loop
+put-live-requires c κs =
+    let c3 = c .before .before .before in
+    let c10 = c3 .before .before .before .before .before .before .before in
+    let l = c3 .loop in
+    let b = c10 in
     let a = b .args in
     let x = objectsFrom (a .lives .now) (a .kinds .now) (a .levels .now) (a .categories .now) (a .datatypes .now) in
-    let f = object-fits (a .n) (l .k) x (c .before .before .loop-test .taken) in
-    let e = ap (λ (o : Object). length (liveBytes o)) (c .before .object-at .ensures) in
-    omega (arith, b .pre, l .inv .1, l .inv .2)
-
-add-k : tie.Need-add-k Inv-loop μ-loop
-add-k c = search needs
-
-loop-less : tie.Need-loop-less Inv-loop μ-loop
-loop-less c = search needs
+    let h = section-most objectRecord (l .k) (liveIn x) (objectIn x) (a .out .now) (l .out) (a .start) (l .place) (l .inv .1) in
+    omega (arith, b .pre, l .inv .0, b .fits)
 
 loop-again : tie.Need-loop-again Inv-loop μ-loop
 loop-again c =
-    let l = c .before .before .before .before .before .before .loop in
-    let a = c .before .before .before .before .before .before .before .before .before .before .before .before .before .args in
-    let x = objectsFrom (a .lives .now) (a .kinds .now) (a .levels .now) (a .categories .now) (a .datatypes .now) in
-    let o = c .before .before .before .before .object-at .ensures in
-    let e = c .before .before .put-object .ensures .0 ∙ ap (λ (q : Object). sets (l .out) (l .place) (liveBytes q)) o
-    ∙ store-object (a .out .now) (l .out) (a .start) (l .k) (l .place) x (l .inv .2) (l .inv .3) in (
+    let p = c .before .before in
+    let l = p .before .before .before .before .loop in
+    let a = p .before .before .before .before .before .before .before .before .before .before .before .args in
+    let x = objectsFrom (a .lives .now) (a .kinds .now) (a .levels .now) (a .categories .now) (a .datatypes .now) in (
       search needs,
-      ap length e ∙ length-sets (a .out .now) (a .start) (objectBytes (l .k + 1) x),
-      c .before .before .put-object .ensures .1 ∙ ap (λ (q : Object). l .place + length (liveBytes q)) o
-          ∙ object-place (a .start) (l .k) (l .place) x (l .inv .2),
-      e,
+      section-goes-on objectRecord (l .k) (liveIn x) (objectIn x) (a .out .now) (l .out) _ (a .start) (l .place) _ (l .inv .1)
+          (subst (λ (o : Object). Stored (l .out) (l .place) (liveRecord o) (p .put-live .last .0) (p .put-live .result))
+          (p .before .before .object-at .ensures) (p .put-live .ensures)),
     )
 
 same-length : tie.Need-same-length Inv-loop μ-loop
-same-length c = search needs
+same-length c = let l = c .before .loop in stored-length _ _ _ (l .out) (l .place) (l .inv .1)
 
 returns : tie.Need-returns Inv-loop μ-loop
 returns c =
+    let c8 = c .before .before .before .before .before .before .before .before in
     let l = c .before .loop in
-    let a = c .before .before .before .before .before .before .before .before .args in
-    let e : l .k ≡ a .n = omega arith in
+    let a = c8 .args in
     let x = objectsFrom (a .lives .now) (a .kinds .now) (a .levels .now) (a .categories .now) (a .datatypes .now) in
-    l .inv .3 ∙ ap (λ (m : ℕ). sets (a .out .now) (a .start) (objectBytes m x)) e
+    let e : l .k ≡ a .n = omega (arith, l .inv .0, c .loop-test .left) in
+    subst (λ (n : ℕ). Stored (a .out .now) (a .start) (objectRecords n x) (l .out) (l .place)) e (l .inv .1)
 
 pub put-objects-spec : {M : Type 1} → statement M
 put-objects-spec =
@@ -84,11 +66,11 @@ put-objects-spec =
     Inv-loop
     μ-loop
     loop-holds
-    cast-object-at
-    object-at-requires
-    put-object-requires
-    add-k
-    loop-less
+    (λ c. search needs)
+    (λ c κs. search needs)
+    put-live-requires
+    (λ c. search needs)
+    (λ c. search needs)
     loop-again
     same-length
     returns)

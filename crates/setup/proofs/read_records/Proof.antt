@@ -1,69 +1,64 @@
+-- At each record the rest is read as the whole is.
 use Rattle.setup.proofs.read_records.Statement.{statement}
 use Rattle.setup.proofs.read_records.Tie as tie
 use Prim.Native.Nat.{ℕ, _+_, _-_, _≤_}
-use mathlib.Core.Path.{_≡_, sym, _∙_, ap}
+use mathlib.Core.Path.{refl, sym, _∙_, ap, subst₂}
+use native.Mathlib.Omega.{arith}
 use borrow.Author.Needs.{needs}
-use Rattle.state.specs.declared.Facility.{Facility}
 use Rattle.state.specs.State.{blank}
-use Rattle.rules.specs.Setup.{recordsOf, recordNumber, enterRecord, refusedSetup, enterAll}
-use Rattle.setup.specs.Scanned.{left, goes-on, stops, ends, begins}
+use Rattle.rules.specs.Setup.{refusedSetup}
+use Rattle.setup.specs.Laws.ReadingLoop.{At, begins, goes-on, stops, few, ends}
 
 abbrev Inv-loop : tie.InvT-loop
-Inv-loop s count f₀ k₀ f k = (k ≤ count) × (enterAll 0 (blank 0 0 0) (recordsOf count s) ≡ enterAll k f (left s count k))
+Inv-loop s count f₀ before₀ k₀ f before k = (k ≤ count) × At s count k f before
 
 abbrev μ-loop : tie.MeasureT-loop
-μ-loop s count f₀ k₀ f k = count - k
-
-blank-requires : tie.Need-blank-requires Inv-loop μ-loop
-blank-requires c κs = search needs
+μ-loop s count f₀ before₀ k₀ f before k = count - k
 
 loop-holds : tie.Need-loop-holds Inv-loop μ-loop
 loop-holds c =
-    let a = c .before .before .args in
-    (search needs, begins (a .s .now) (a .count) ∙ ap (λ (g : Facility). enterAll 0 g (left (a .s .now) (a .count) 0)) (sym (c .blank .ensures)))
-
-record-at-requires : tie.Need-record-at-requires Inv-loop μ-loop
-record-at-requires c κs = search needs
-
-record-number-requires : tie.Need-record-number-requires Inv-loop μ-loop
-record-number-requires c κs = search needs
-
-refused-requires : tie.Need-refused-requires Inv-loop μ-loop
-refused-requires c κs = search needs
+    let a = c .before .before .before .args in
+    (search needs, begins (a .s .now) (a .count) _ _ (c .blank .ensures ∙ ap blank (c .before .off .ensures)) refl)
 
 returns : tie.Need-returns Inv-loop μ-loop
 returns c =
-    let l = c .before .before .before .before .before .loop in
-    let a = c .before .before .before .before .before .before .before .before .args in
-    let e = c .before .before .record-number .ensures ∙ ap (recordNumber (l .f .users) (l .f .entered) (l .k)) (c .before .before .before .record-at .ensures) in
+    let c3 = c .before .before .before in
+    let c4 = c3 .before in
+    let c5 = c4 .before in
+    let c9 = c5 .before .before .before .before in
+    let l = c5 .loop in
+    let a = c9 .args in
+    let e = c .before .before .record-number .ensures in
     c .refused .ensures ∙ ap (λ (n : ℕ). refusedSetup n (l .k)) e
-    ∙ sym (l .inv .1 ∙ stops (a .s .now) (a .count) (l .k) (l .f) (c .before .before .before .before .loop-test .taken) (λ z. c .before .if1 .taken (e ∙ z)))
+    ∙ stops (a .s .now) (a .count) (l .k) (l .f) (l .before) _ (c4 .loop-test .taken) (l .inv .1)
+    (c3 .record-at .ensures) (λ z. c .before .if1 .taken (e ∙ z))
 
-enter-record-requires : tie.Need-enter-record-requires Inv-loop μ-loop
-enter-record-requires c κs = search needs
-
-add-k : tie.Need-add-k Inv-loop μ-loop
-add-k c = search needs
-
-loop-less : tie.Need-loop-less Inv-loop μ-loop
-loop-less c = search needs
+progress-after-requires : tie.Need-progress-after-requires Inv-loop μ-loop
+progress-after-requires c κs =
+    let c5 = c .before .before .before .before .before in
+    let c9 = c5 .before .before .before .before in
+    let l = c5 .loop in
+    let a = c9 .args in
+    let h = few (a .s .now) (a .count) (l .k) (l .f) (l .before) (l .inv .1) in
+    omega (arith, l .inv .0, c9 .fits)
 
 loop-again : tie.Need-loop-again Inv-loop μ-loop
 loop-again c =
-    let l = c .before .before .before .before .before .loop in
-    let a = c .before .before .before .before .before .before .before .before .args in
-    let r = c .before .before .before .record-at .ensures in
-    let e = c .before .before .record-number .ensures ∙ ap (recordNumber (l .f .users) (l .f .entered) (l .k)) r in (
+    let c6 = c .before .before .before .before .before .before in
+    let l = c6 .loop in
+    let a = c6 .before .before .before .before .args in
+    let z = sym (c .before .before .before .record-number .ensures) ∙ c .before .before .if1 .left in (
       search needs,
-      l .inv .1 ∙ goes-on (a .s .now) (a .count) (l .k) (l .f) (c .before .before .before .before .loop-test .taken) (sym e ∙ c .before .if1 .left)
-          ∙ ap (λ (g : Facility). enterAll (l .k + 1) g (left (a .s .now) (a .count) (l .k + 1))) (sym (c .enter-record .ensures ∙ ap (enterRecord (l .f)) r)),
+      subst₂ (At (a .s .now) (a .count) (l .k + 1)) (sym (c .before .enter-record .ensures)) (sym (c .progress-after .ensures))
+          (goes-on (a .s .now) (a .count) (l .k) (l .f) (l .before) _ (c .before .before .before .before .before .loop-test .taken) (l .inv .1)
+          (c .before .before .before .before .record-at .ensures) z),
     )
 
 returns-2 : tie.Need-returns-2 Inv-loop μ-loop
 returns-2 c =
     let l = c .before .loop in
-    let a = c .before .before .before .before .args in
-    sym (l .inv .1 ∙ ends (a .s .now) (a .count) (l .k) (l .f) (c .loop-test .left))
+    let a = c .before .before .before .before .before .args in
+    ends (a .s .now) (a .count) (l .k) (l .f) (l .before) (c .loop-test .left) (l .inv .1)
 
 pub read-records-spec : {M : Type 1} → statement M
 read-records-spec =
@@ -71,14 +66,16 @@ read-records-spec =
     (tie.spec
     Inv-loop
     μ-loop
-    blank-requires
+    (λ c κs. search needs)
+    (λ c κs. search needs)
     loop-holds
-    record-at-requires
-    record-number-requires
-    refused-requires
+    (λ c κs. search needs)
+    (λ c κs. search needs)
+    (λ c κs. search needs)
     returns
-    enter-record-requires
-    add-k
-    loop-less
+    (λ c κs. search needs)
+    progress-after-requires
+    (λ c. search needs)
+    (λ c. search needs)
     loop-again
     returns-2)

@@ -1,88 +1,51 @@
+-- The first pass, over none of the buffer, leaves it and tells the length; the second stores all of it.
 use Rattle.setup.proofs.write_setup.Statement.{statement}
 use Rattle.setup.proofs.write_setup.Tie as tie
-use Prim.Native.Nat.{ℕ, _+_, _*_}
-use mathlib.Core.Path.{_≡_, _∙_, ap}
-use mathlib.Core.List.{List}
+use Prim.Native.Nat.{ℕ, _≤_, _<_}
+use mathlib.Core.Path.{_∙_, ap, subst}
+use mathlib.Core.List.{List, _++_}
 use lib.ListN.{length}
-use lib.Seq.{sets}
 use native.Mathlib.Omega.{arith}
 use borrow.Author.Needs.{needs}
-use Rattle.state.specs.State.{usersIn, objectsIn}
-use Rattle.rules.specs.Setup.{setupBytes}
-use Rattle.setup.specs.Stored.{userBytes, objectBytes, object-bytes-length, live-counted, whole-stored, bytes-count, no-room, all-room}
-
-count-live-requires : tie.Need-count-live-requires
-count-live-requires c κs = search needs
-
-cast-start : tie.Need-cast-start
-cast-start c = search needs
-
-mul-start : tie.Need-mul-start
-mul-start c = search needs
-
-add-start : tie.Need-add-start
-add-start c = search needs
-
-mul-need : tie.Need-mul-need
-mul-need c = omega (arith, c .count-live .ensures .1)
-
-add-need : tie.Need-add-need
-add-need c = omega (arith, c .count-live .ensures .1)
+use Rattle.rules.specs.Setup.{setupRecords}
+use Rattle.setup.specs.Writing.{Stored}
+use Rattle.setup.specs.Laws.WritingLoop.{put-none, no-room, all-room}
 
 returns : tie.Need-returns
 returns c =
-    let a = c .before .before .before .before .before .before .args in
-    let f = a .t1 in
-    let e = ap (λ (n : ℕ). 8 + f .users * 8 + n * 8) (c .before .count-live .ensures .0) in
-    let n = bytes-count f in
-    let r = no-room f (a .out .now) _ (let z : 8 + f .users * 8 + c .before .count-live .result * 8 ≡ length (setupBytes f) = omega arith in z) (c .if1 .taken) in
-    (r .told, r .left)
-
-put-record-requires : tie.Need-put-record-requires
-put-record-requires c κs = search needs
-
-put-users-requires : tie.Need-put-users-requires
-put-users-requires c κs = search needs
-
-put-objects-requires : tie.Need-put-objects-requires
-put-objects-requires c κs =
-    let f = c .before .before .before .before .before .before .before .before .before .before .before .before .before .before .before .before .before .before .before .before .before .before .before .before .before .before .before .before .before .before .before .before .before .args .t1 in
-    let n = c .before .before .before .before .before .before .before .before .before .before .before .before .before .before .before .before .before .before .before .before .before .before .before .before .before .before .before .before .count-live .ensures .0 in
-    let l = object-bytes-length (f .entered) (objectsIn f) in
-    let m = live-counted (f .entered) (objectsIn f) in
-    omega (arith, c .before .before .before .before .before .before .before .before .before .before .before .before .before .before .before .before .before .before .before .before .before .before .before .before .before .before .before .if1 .left, c .before .before .before .before .before .before .before .before .before .before .before .before .before .before .put-users .kept .0, c .before .before .before .before .before .before .before .before .before .before .before .before .before .before .before .before .before .before .before .before .before .before .before .before .before .put-record .kept .0)
-
-same-length : tie.Need-same-length
-same-length c = search needs
+    let c3 = c .before .before .before in
+    let c6 = c3 .before .before .before in
+    let p = c3 .put-sections in
+    let a = c6 .args in
+    let o = a .out .now in
+    let e = p .ensures .buffer ∙ put-none 0 (setupRecords (a .f)) in
+    let h : length o < p .result = subst (λ (q : List ℕ). length (q ++ o) < p .result) e (c .if1 .taken) in
+    let r = no-room (a .f) o _ _ (p .result) (p .ensures) h in
+    (r .told, ap (λ (q : List ℕ). q ++ o) e ∙ r .left)
 
 returns-2 : tie.Need-returns-2
 returns-2 c =
-    let a = c .before .before .before .before .before .before .before .before .before .before .before .before .before .before .before .before .before .before .before .before .before .before .before .before .before .before .before .before .before .before .before .before .before .before .before .before .args in
-    let f = a .t1 in
+    let q = c .before .before .put-sections2 in
+    let d = c .before .before .before .before in
+    let p = d .before .before .before .put-sections in
+    let a = d .before .before .before .before .before .before .args in
     let o = a .out .now in
-    let k = c .before .before .before .before .before .before .before .before .before .before .before .before .before .before .before .before .before .before .before .before .before .before .before .before .before .before .before .before .before .before .before .count-live in
-    let n = bytes-count f in
-    let h = c .before .before .before .before .before .before .before .before .before .before .before .before .before .before .before .before .before .before .before .before .before .before .before .before .before .before .before .before .before .before .if1 .left in
-    let e = c .before .before .put-objects .ensures
-    ∙ ap (λ (q : List ℕ). sets q (8 + f .users * 8) (objectBytes (f .entered) (objectsIn f)))
-    (c .before .before .before .before .before .before .before .before .before .before .before .before .before .before .before .before .before .put-users .ensures ∙ ap (λ (q : List ℕ). sets q 8 (userBytes (f .users) (usersIn f))) (c .before .before .before .before .before .before .before .before .before .before .before .before .before .before .before .before .before .before .before .before .before .before .before .before .before .before .before .before .put-record .ensures))
-    ∙ whole-stored f o in
-    let r = all-room f o _ _ (let w = ap (λ (m : ℕ). 8 + f .users * 8 + m * 8) (k .ensures .0) in let z : 8 + f .users * 8 + k .result * 8 ≡ length (setupBytes f) = omega arith in z) h e in
+    let e = p .ensures .buffer ∙ put-none 0 (setupRecords (a .f)) in
+    let h : p .result ≤ length o = subst (λ (x : List ℕ). p .result ≤ length (x ++ o)) e (d .if1 .left) in
+    let s = subst (λ (x : List ℕ). Stored (x ++ o) 0 (setupRecords (a .f)) (q .last .1 .0) (q .result)) e (q .ensures) in
+    let k : q .result ≤ length o = omega (arith, p .ensures .place, q .ensures .place) in
+    let r = all-room (a .f) o _ (q .result) k s in
     (r .told, r .left)
 
 pub write-setup-spec : {M : Type 1} → statement M
 write-setup-spec =
     tie.close
     (tie.spec
-    count-live-requires
-    cast-start
-    mul-start
-    add-start
-    mul-need
-    add-need
+    (λ c. search needs)
+    (λ c. search needs)
+    (λ c κs. search needs)
+    (λ c. search needs)
     returns
-    put-record-requires
-    put-users-requires
-    put-objects-requires
-    same-length
+    (λ c κs. search needs)
+    (λ c. search needs)
     returns-2)

@@ -1,3 +1,4 @@
+-- It ends, and does nothing that is not allowed.
 use Rattle.trials.proofs.untouched.Statement.{statement}
 use Rattle.trials.proofs.untouched.Tie as tie
 use Prim.Native.Nat.{_-_, _≤_}

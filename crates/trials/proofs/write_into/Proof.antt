@@ -1,3 +1,4 @@
+-- It ends, and does nothing that is not allowed.
 use Rattle.trials.proofs.write_into.Statement.{statement}
 use Rattle.trials.proofs.write_into.Tie as tie
 use mathlib.Core.Path.{sym}

@@ -1,42 +1,35 @@
+-- The line is of what the call looked at, of its outcome, and of what it would look at after it.
+use Prim.Native.Nat.{ℕ}
+use mathlib.Core.Path.{_≡_, _∙_, ap}
+use borrow.Author.Needs.{needs}
+use Rattle.state.specs.declared.Call.{Call}
+use Rattle.state.specs.declared.Facility.{Facility}
+use Rattle.rules.specs.declared.Enforced.{Enforced}
+use Rattle.rules.specs.declared.View.{View}
+use Rattle.rules.specs.Modules.{viewOf}
+use Rattle.rules.specs.Calls.{enforce}
+use Rattle.text.specs.Laws.Stored.{as-text, counts}
+use Rattle.words.specs.Sentences.{sentenceText, sentence}
 use Rattle.words.proofs.tell.Statement.{statement}
 use Rattle.words.proofs.tell.Tie as tie
-use Prim.{tt}
-use Rattle.rules.specs.declared.Enforced.{Enforced}
-use mathlib.Core.Path.{ap}
-use borrow.Author.Needs.{needs}
-use Rattle.text.specs.Stored.{as-text, counts}
-use Rattle.words.specs.Sentences.{sentence, sentence-is}
 
-view-of-requires : tie.Need-view-of-requires
-view-of-requires c κs = tt
-
-enforce-requires : tie.Need-enforce-requires
-enforce-requires c κs = tt
-
-view-of-requires-2 : tie.Need-view-of-requires-2
-view-of-requires-2 c κs = tt
-
-put-sentence-requires : tie.Need-put-sentence-requires
-put-sentence-requires c κs = tt
-
-same-length : tie.Need-same-length
-same-length c = search needs
+line : (i : ℕ) (f : Facility) (c : Call) (v : View) (e : Enforced) (w : View) → v ≡ viewOf f c → e ≡ enforce f c → w ≡ viewOf (e .facility) c
+    → sentenceText i c v (e .outcome) w ≡ sentence i f c
+unfolding sentence
+line i f c v e w hv he hw =
+    ap (λ (x : View). sentenceText i c x (e .outcome) w) hv
+    ∙ ap (λ (x : View). sentenceText i c (viewOf f c) (e .outcome) x) hw
+    ∙ ap (λ (x : Enforced). sentenceText i c (viewOf f c) (x .outcome) (viewOf (x .facility) c)) he
 
 returns : tie.Need-returns
-returns c = let a = c .before .before .before .before .before .before .before .before .before .args in
-    let e = c .before .before .before .before .before .before .enforce .ensures in
-    let z = as-text (a .out .now) _ _ (sentence (a .index) (a .f) (a .c)) 0 _
-    (sentence-is (a .index) (a .f) (a .c) _ _ _ (c .before .before .before .before .before .before .before .view-of .ensures) e
-    (c .before .before .before .before .view-of2 .ensures)) (c .before .before .put-sentence .ensures) in
-    (z, (ap (λ (x : Enforced). x .facility) e, counts (a .out .now) _ (sentence (a .index) (a .f) (a .c)) 0 _ z))
+returns c =
+    let c5 = c .before .before .before .before .before in
+    let a = c5 .before .before .args in
+    let e = c5 .enforce .ensures in
+    let t = sentence (a .index) (a .f) (a .c) in
+    let h = line (a .index) (a .f) (a .c) _ _ _ (c5 .before .view-of .ensures) e (c .before .before .before .view-of2 .ensures) in
+    let s = as-text (a .out .now) _ _ t (a .place .now) _ h (c .put-sentence .ensures) in
+    (ap (λ (x : Enforced). x .facility) e, (s, counts (a .out .now) _ t (a .place .now) _ s))
 
 pub tell-spec : {M : Type 1} → statement M
-tell-spec =
-    tie.close
-    (tie.spec
-    view-of-requires
-    enforce-requires
-    view-of-requires-2
-    put-sentence-requires
-    same-length
-    returns)
+tell-spec = tie.close (tie.spec (λ c κs. search needs) (λ c κs. search needs) (λ c κs. search needs) (λ c κs. search needs) returns)

@@ -1,27 +1,10 @@
+-- The result is `withProcess self p s`.
 use Rattle.matter.proofs.Ledger.with_process.Statement.{statement}
 use Rattle.matter.proofs.Ledger.with_process.Tie as tie
 use mathlib.Core.Path.{refl}
 use borrow.Author.Needs.{needs}
-use Rattle.matter.specs.Held.{putMembers, withProcess}
-use Rattle.matter.specs.Rows.{process-kept}
-
-mul-low : tie.Need-mul-low
-mul-low c = search needs
-
-add-high : tie.Need-add-high
-add-high c = search needs
-
-mul-self : tie.Need-mul-self
-mul-self c = search needs
-
-element-write-self : tie.Need-element-write-self
-element-write-self c = search needs
-
-mul-self-2 : tie.Need-mul-self-2
-mul-self-2 c = search needs
-
-element-write-self-2 : tie.Need-element-write-self-2
-element-write-self-2 c = search needs
+use Rattle.matter.specs.LedgerSteps.{putMembers, withProcess}
+use Rattle.matter.specs.Laws.BitRows.{process-kept}
 
 returns : tie.Need-returns
 unfolding withProcess putMembers
@@ -33,12 +16,5 @@ returns-2 c = process-kept _ _ _ (search needs) (c .if1 .left)
 pub with-process-spec : {M : Type 1} → statement M
 with-process-spec =
     tie.close
-    (tie.spec
-    mul-low
-    add-high
-    mul-self
-    element-write-self
-    mul-self-2
-    element-write-self-2
-    returns
+    (tie.spec (λ c. search needs) (λ c. search needs) (λ c. search needs) (λ c. search needs) (λ c. search needs) (λ c. search needs) returns
     returns-2)

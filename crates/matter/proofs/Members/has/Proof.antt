@@ -1,21 +1,13 @@
+-- The result is `isMember self c`.
 use Rattle.matter.proofs.Members.has.Statement.{statement}
 use Rattle.matter.proofs.Members.has.Tie as tie
 use borrow.Author.Tests.{lt-ltb, le-ltb}
 use borrow.Author.Needs.{needs}
-use Rattle.matter.specs.Held.{bit, isMember}
-
-shr-result : tie.Need-shr-result
-shr-result c = search needs
+use Rattle.matter.specs.LedgerSteps.{bit, isMember}
 
 returns : tie.Need-returns
 unfolding isMember bit
 returns c = rw (lt-ltb _ _ (c .before .if1 .taken))
-
-cast-result : tie.Need-cast-result
-cast-result c = search needs
-
-shr-result-2 : tie.Need-shr-result-2
-shr-result-2 c = search needs
 
 returns-2 : tie.Need-returns-2
 unfolding isMember bit
@@ -26,4 +18,4 @@ unfolding isMember
 returns-3 c = rw (le-ltb _ _ (c .before .if1 .left), le-ltb _ _ (c .if2 .left))
 
 pub has-spec : {M : Type 1} → statement M
-has-spec = tie.close (tie.spec shr-result returns cast-result shr-result-2 returns-2 returns-3)
+has-spec = tie.close (tie.spec (λ c. search needs) returns (λ c. search needs) (λ c. search needs) returns-2 returns-3)

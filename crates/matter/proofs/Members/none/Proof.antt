@@ -1,7 +1,8 @@
+-- The result is `noMembers`.
 use Rattle.matter.proofs.Members.none.Statement.{statement}
 use Rattle.matter.proofs.Members.none.Tie as tie
 use mathlib.Core.Path.{refl}
-use Rattle.matter.specs.Held.{noMembers}
+use Rattle.matter.specs.LedgerSteps.{noMembers}
 
 returns : tie.Need-returns
 unfolding noMembers

@@ -1,3 +1,4 @@
+-- The result is `blank s`.
 use Rattle.state.proofs.Facility.blank.Statement.{statement}
 use Rattle.state.proofs.Facility.blank.Tie as tie
 use mathlib.Core.Path.{refl}

@@ -1,6 +1,8 @@
 -- Process p is stored as with_process stores it, and then its mark on object t goes; a number that is none changes nothing.
-use Rattle.state.specs.State.{mostProcesses, mostOpens, processesIn, putProcess, putOpens}
-use Rattle.state.specs.Views.{ProcessesShaped, opens-out, marks-of-none}
+use Rattle.opens.specs.Opens.{mostProcesses, mostOpens}
+use Rattle.state.specs.State.{processesIn, putProcess, putOpens}
+use Rattle.state.specs.Shaped.{ProcessesShaped}
+use Rattle.state.specs.Laws.ReadBack.{opens-out, marks-of-none}
 use borrow.Author.Needs.{length-unmapped}
 use lib.ListN.{length}
 use mathlib.Core.Path.{_≡_, sym}
@@ -8,30 +10,6 @@ use Prim.Native.Nat.{ℕ}
 use borrow.Author.Needs.{needs}
 use Rattle.state.proofs.Facility.closed.Statement.{statement}
 use Rattle.state.proofs.Facility.closed.Tie as tie
-
-mark-place-requires : tie.Need-mark-place-requires
-mark-place-requires c κs = search needs
-
-element-write-self : tie.Need-element-write-self
-element-write-self c = search needs
-
-element-write-self-2 : tie.Need-element-write-self-2
-element-write-self-2 c = search needs
-
-element-write-self-3 : tie.Need-element-write-self-3
-element-write-self-3 c = search needs
-
-element-write-self-4 : tie.Need-element-write-self-4
-element-write-self-4 c = search needs
-
-element-write-self-5 : tie.Need-element-write-self-5
-element-write-self-5 c = search needs
-
-element-write-self-6 : tie.Need-element-write-self-6
-element-write-self-6 c = search needs
-
-element-write-self-7 : tie.Need-element-write-self-7
-element-write-self-7 c = search needs
 
 returns : tie.Need-returns
 unfolding putProcess putOpens
@@ -67,16 +45,5 @@ returns-3 c =
 pub closed-spec : {M : Type 1} → statement M
 closed-spec =
     tie.close
-    (tie.spec
-    mark-place-requires
-    (λ c. search needs)
-    element-write-self
-    element-write-self-2
-    element-write-self-3
-    element-write-self-4
-    element-write-self-5
-    element-write-self-6
-    element-write-self-7
-    returns
-    returns-2
-    returns-3)
+    (tie.spec (λ c κs. search needs) (λ c. search needs) (λ c. search needs) (λ c. search needs) (λ c. search needs) (λ c. search needs)
+    (λ c. search needs) (λ c. search needs) (λ c. search needs) returns returns-2 returns-3)

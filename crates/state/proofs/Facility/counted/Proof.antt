@@ -1,11 +1,9 @@
+-- The result is `counted self`.
 use Rattle.state.proofs.Facility.counted.Statement.{statement}
 use Rattle.state.proofs.Facility.counted.Tie as tie
 use borrow.Author.Tests.{lt-ltb, le-ltb}
 use borrow.Author.Needs.{needs}
 use Rattle.state.specs.State.{putRefusals, counted}
-
-add-self : tie.Need-add-self
-add-self c = search needs
 
 returns : tie.Need-returns
 unfolding counted putRefusals
@@ -16,4 +14,4 @@ unfolding counted putRefusals
 returns-2 c = rw (le-ltb _ _ (c .if1 .left))
 
 pub counted-spec : {M : Type 1} → statement M
-counted-spec = tie.close (tie.spec add-self returns returns-2)
+counted-spec = tie.close (tie.spec (λ c. search needs) returns returns-2)

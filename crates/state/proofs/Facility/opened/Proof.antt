@@ -1,6 +1,8 @@
 -- Process p is stored as with_process stores it, and then its mark on object t gets the modes; a number that is none changes nothing.
-use Rattle.state.specs.State.{mostProcesses, mostOpens, processesIn, putProcess, putOpens, opensOf, addModes}
-use Rattle.state.specs.Views.{ProcessesShaped, opens-out, marks-of-none}
+use Rattle.opens.specs.Opens.{mostProcesses, mostOpens, addModes}
+use Rattle.state.specs.State.{processesIn, putProcess, putOpens, opensOf}
+use Rattle.state.specs.Shaped.{ProcessesShaped}
+use Rattle.state.specs.Laws.ReadBack.{opens-out, marks-of-none}
 use borrow.Author.Needs.{length-unmapped}
 use lib.ListN.{length}
 use mathlib.Core.Path.{_≡_, sym}
@@ -8,36 +10,6 @@ use Prim.Native.Nat.{ℕ}
 use borrow.Author.Needs.{needs}
 use Rattle.state.proofs.Facility.opened.Statement.{statement}
 use Rattle.state.proofs.Facility.opened.Tie as tie
-
-mark-place-requires : tie.Need-mark-place-requires
-mark-place-requires c κs = search needs
-
-element-write-self : tie.Need-element-write-self
-element-write-self c = search needs
-
-element-write-self-2 : tie.Need-element-write-self-2
-element-write-self-2 c = search needs
-
-element-write-self-3 : tie.Need-element-write-self-3
-element-write-self-3 c = search needs
-
-element-write-self-4 : tie.Need-element-write-self-4
-element-write-self-4 c = search needs
-
-element-write-self-5 : tie.Need-element-write-self-5
-element-write-self-5 c = search needs
-
-element-write-self-6 : tie.Need-element-write-self-6
-element-write-self-6 c = search needs
-
-at-requires : tie.Need-at-requires
-at-requires c κs = search needs
-
-add-modes-requires : tie.Need-add-modes-requires
-add-modes-requires c κs = search needs
-
-element-write-self-7 : tie.Need-element-write-self-7
-element-write-self-7 c = search needs
 
 returns : tie.Need-returns
 unfolding putProcess putOpens opensOf
@@ -73,18 +45,5 @@ returns-3 c =
 pub opened-spec : {M : Type 1} → statement M
 opened-spec =
     tie.close
-    (tie.spec
-    mark-place-requires
-    (λ c. search needs)
-    element-write-self
-    element-write-self-2
-    element-write-self-3
-    element-write-self-4
-    element-write-self-5
-    element-write-self-6
-    at-requires
-    add-modes-requires
-    element-write-self-7
-    returns
-    returns-2
-    returns-3)
+    (tie.spec (λ c κs. search needs) (λ c. search needs) (λ c. search needs) (λ c. search needs) (λ c. search needs) (λ c. search needs)
+    (λ c. search needs) (λ c. search needs) (λ c κs. search needs) (λ c κs. search needs) (λ c. search needs) returns returns-2 returns-3)

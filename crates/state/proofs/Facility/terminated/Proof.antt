@@ -1,16 +1,8 @@
+-- The result is `terminated self p`.
 use Rattle.state.proofs.Facility.terminated.Statement.{statement}
 use Rattle.state.proofs.Facility.terminated.Tie as tie
 use borrow.Author.Needs.{needs}
 use Rattle.state.specs.State.{putProcess}
-
-none-requires : tie.Need-none-requires
-none-requires c κs = search needs
-
-with-process-requires : tie.Need-with-process-requires
-with-process-requires c κs = search needs
-
-with-closed-row-requires : tie.Need-with-closed-row-requires
-with-closed-row-requires c κs = search needs
 
 returns : tie.Need-returns
 unfolding putProcess
@@ -18,4 +10,4 @@ returns c = rw (c .with-closed-row .ensures, c .before .with-process .ensures, c
 
 pub terminated-spec : {M : Type 1} → statement M
 terminated-spec =
-    tie.close (tie.spec none-requires with-process-requires with-closed-row-requires returns)
+    tie.close (tie.spec (λ c κs. search needs) (λ c κs. search needs) (λ c κs. search needs) returns)

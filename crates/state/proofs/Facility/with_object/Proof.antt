@@ -1,29 +1,9 @@
+-- The result is `addObject self o`.
 use Rattle.state.proofs.Facility.with_object.Statement.{statement}
 use Rattle.state.proofs.Facility.with_object.Tie as tie
 use borrow.Author.Tests.{lt-ltb, le-ltb}
 use borrow.Author.Needs.{needs}
 use Rattle.state.specs.State.{putObject, addObject}
-
-cast-i : tie.Need-cast-i
-cast-i c = search needs
-
-element-write-self : tie.Need-element-write-self
-element-write-self c = search needs
-
-element-write-self-2 : tie.Need-element-write-self-2
-element-write-self-2 c = search needs
-
-element-write-self-3 : tie.Need-element-write-self-3
-element-write-self-3 c = search needs
-
-element-write-self-4 : tie.Need-element-write-self-4
-element-write-self-4 c = search needs
-
-element-write-self-5 : tie.Need-element-write-self-5
-element-write-self-5 c = search needs
-
-add-self : tie.Need-add-self
-add-self c = search needs
 
 returns : tie.Need-returns
 unfolding addObject putObject
@@ -36,13 +16,5 @@ returns-2 c = rw (le-ltb _ _ (c .if1 .left))
 pub with-object-spec : {M : Type 1} → statement M
 with-object-spec =
     tie.close
-    (tie.spec
-    cast-i
-    element-write-self
-    element-write-self-2
-    element-write-self-3
-    element-write-self-4
-    element-write-self-5
-    add-self
-    returns
-    returns-2)
+    (tie.spec (λ c. search needs) (λ c. search needs) (λ c. search needs) (λ c. search needs) (λ c. search needs) (λ c. search needs)
+    (λ c. search needs) returns returns-2)

@@ -1,28 +1,13 @@
+-- The result is `putProcess self p r`.
 use Rattle.state.proofs.Facility.with_process.Statement.{statement}
 use Rattle.state.proofs.Facility.with_process.Tie as tie
 use Prim.Native.Nat.{ℕ}
 use mathlib.Core.Path.{refl, sym}
 use borrow.Author.Needs.{needs, length-unmapped}
-use Rattle.state.specs.Views.{ProcessesShaped, process-out}
-use Rattle.state.specs.State.{mostProcesses, processesIn, putProcess}
-
-element-write-self : tie.Need-element-write-self
-element-write-self c = search needs
-
-element-write-self-2 : tie.Need-element-write-self-2
-element-write-self-2 c = search needs
-
-element-write-self-3 : tie.Need-element-write-self-3
-element-write-self-3 c = search needs
-
-element-write-self-4 : tie.Need-element-write-self-4
-element-write-self-4 c = search needs
-
-element-write-self-5 : tie.Need-element-write-self-5
-element-write-self-5 c = search needs
-
-element-write-self-6 : tie.Need-element-write-self-6
-element-write-self-6 c = search needs
+use Rattle.state.specs.Shaped.{ProcessesShaped}
+use Rattle.state.specs.Laws.ReadBack.{process-out}
+use Rattle.opens.specs.Opens.{mostProcesses}
+use Rattle.state.specs.State.{processesIn, putProcess}
 
 returns : tie.Need-returns
 unfolding putProcess
@@ -44,12 +29,5 @@ returns-2 c = let f = c .before .args .t1 in
 pub with-process-spec : {M : Type 1} → statement M
 with-process-spec =
     tie.close
-    (tie.spec
-    element-write-self
-    element-write-self-2
-    element-write-self-3
-    element-write-self-4
-    element-write-self-5
-    element-write-self-6
-    returns
+    (tie.spec (λ c. search needs) (λ c. search needs) (λ c. search needs) (λ c. search needs) (λ c. search needs) (λ c. search needs) returns
     returns-2)

@@ -1,6 +1,7 @@
+-- The result is `freshProcess owner`.
 use borrow.Author.Needs.{needs}
 use Rattle.state.specs.State.{freshProcess}
-use Rattle.state.specs.Labels.{bottom, top}
+use Rattle.labels.specs.Labels.{bottom, top}
 use Rattle.state.proofs.Process.fresh.Statement.{statement}
 use Rattle.state.proofs.Process.fresh.Tie as tie
 

@@ -1,8 +1,9 @@
+-- The result is `noProcess`.
 use Rattle.state.proofs.Process.none.Statement.{statement}
 use Rattle.state.proofs.Process.none.Tie as tie
 use mathlib.Core.Path.{refl}
 use Rattle.state.specs.State.{noProcess}
-use Rattle.state.specs.Labels.{bottom}
+use Rattle.labels.specs.Labels.{bottom}
 
 returns : tie.Need-returns
 unfolding noProcess bottom

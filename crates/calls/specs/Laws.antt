@@ -1,0 +1,2 @@
+-- Laws, which other crates cite; nobody has to read their proofs.
+pub mod Calls

@@ -1,0 +1,2 @@
+-- What is known of what a program reads.
+pub mod Files

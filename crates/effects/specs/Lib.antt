@@ -1,0 +1,3 @@
+-- Definitions beside document 01's: what a call with a number changes.
+pub mod Changes
+pub mod Laws

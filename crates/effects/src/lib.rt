@@ -1,0 +1,89 @@
+// What an accepted call changes: decided once, applied by the state by value and by the bytes in place.
+ghost use mathlib.Core.Path.{_≡_};
+ghost use Rattle.rules.specs.Effects.{changeOf, created};
+ghost use Rattle.rules.specs.Requests.{actionOf};
+ghost use Rattle.effects.specs.Changes.{changeBy};
+use rules::Action;
+use rules::View;
+use state::Call;
+use state::Change;
+use state::Object;
+use state::Process;
+
+// The object that create enters.
+fn created(r: Process, kind: u8) -> Object
+    ensures { λ x. ⌜ x ≡ created r kind ⌝ }
+{
+    let label = r.current;
+    Object {
+        live: 1,
+        kind,
+        label,
+        category: 0,
+        datatype: 0,
+    }
+}
+
+fn change_of_create(v: View, c: Call) -> Change
+    ensures { λ x. ⌜ x ≡ changeOf Action.Create v c ⌝ }
+{
+    if requests::in_directory(c.extra) {
+        let r = modules::moved(v, c);
+        let o = created(r, c.extra);
+        return Change::CreateObject { p: c.process, r, o };
+    }
+    let o = created(v.caller, c.extra);
+    Change::EnterObject { o }
+}
+
+fn change_on_object(v: View, c: Call) -> Change
+    ensures { λ x. ⌜ x ≡ changeOf Action.OnObject v c ⌝ }
+{
+    let r = modules::moved(v, c);
+    let opens = requests::open_change(c.request);
+    Change::UseObject {
+        p: c.process,
+        r,
+        t: c.target,
+        opens,
+    }
+}
+
+// What an accepted call changes; v is what the call looks at.
+fn change_of(v: View, c: Call) -> Change
+    ensures { λ x. ⌜ x ≡ changeOf (actionOf (c .request)) v c ⌝ }
+{
+    let request = c.request;
+    match request {
+        2 => Change::CloneProcess {
+            p: c.process,
+            t: c.target,
+        },
+        4 => change_of_create(v, c),
+        16 => Change::NoChange,
+        17 => Change::PutProcess {
+            p: c.process,
+            r: modules::levelled(v, c),
+        },
+        18 => Change::EndProcess { p: c.process },
+        21 => Change::PutProcess {
+            p: c.process,
+            r: Process::fresh(c.extra),
+        },
+        22..=255 => Change::NoChange,
+        _ => change_on_object(v, c),
+    }
+}
+
+// What a call with this number changes: accepted, denied, or refused for another reason.
+pub fn change_by(number: u8, v: View, c: Call) -> Change
+    ensures { λ x. ⌜ x ≡ changeBy number v c ⌝ }
+{
+    if number == 0 {
+        return change_of(v, c);
+    }
+    if answers::is_denial(number) {
+        return Change::CountRefusal;
+    }
+    Change::NoChange
+}

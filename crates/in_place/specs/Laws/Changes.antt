@@ -1,0 +1,147 @@
+-- The changes of a facility, as stores into its bytes.
+use Prim.Native.Nat.{ℕ, _+_, _≤_, _<_, _*_}
+use mathlib.Core.Path.{_≡_, ap, refl, _∙_, sym}
+use mathlib.Core.List.{List, [], _∷_}
+use lib.ListN.{set, length, drop, length-take, length-drop}
+use lib.Seq.{getD-set-same}
+use native.Mathlib.Omega.{arith}
+use borrow.Author.Tests.{lt-ltb, le-ltb}
+use Rattle.state.specs.declared.Process.{Process}
+use Rattle.state.specs.State.{putProcess, putOpens, changed, noProcess, terminated, processOf, cloned, dropObject, deleted, usersIn, objectsFrom}
+use Rattle.state.specs.State.{processesIn, with, putObject, addObject, putRefusals, mostRefusals, counted}
+use Rattle.in_place.specs.Layout.{fieldOf, facilityOf, facilityAt, theAutomatics, theCurrents, theOwners, theRunnings, theWritemarks, theReadmarks}
+use Rattle.in_place.specs.Layout.{size, offset, theOpens, wholeSize, theLives, thePadding, theCategories, theDatatypes, theKinds, theLevels}
+use Rattle.in_place.specs.Layout.{theEntered, fourBytes, theRefusals}
+use Rattle.in_place.specs.Stores.{storeField, storeIn, Becomes, storeObject}
+use Rattle.state.specs.declared.Facility.{Facility}
+use Rattle.in_place.specs.Laws.Stores.{stored}
+use Rattle.opens.specs.Opens.{mostOpens, mostObjects, closeProcess, copyProcess, closeObject}
+use Rattle.state.specs.declared.Change.{Change}
+use Rattle.labels.specs.Decisions.{at}
+use Rattle.state.specs.declared.Object.{Object}
+
+-- six stores of a process
+pub process-stored : (s m : List ℕ) (p : ℕ) (r : Process)
+    → fieldOf m ≡ storeField (storeField (storeField (storeField (storeField (storeField (fieldOf s) theRunnings p (r .running)) theOwners p (r .owner))
+    theCurrents p (r .current .level))
+    theReadmarks p (r .readmark .level)) theWritemarks p (r .writemark .level)) theAutomatics p (r .automatic)
+    → facilityAt m ≡ putProcess (facilityAt s) p r
+unfolding facilityAt putProcess
+process-stored s m p r e = ap (λ (g : ℕ → List ℕ). facilityOf g) e
+
+-- a store among the marks, and a further one
+pub opens-step : (s m : List ℕ) (f : Facility) (l : List ℕ) (i v : ℕ) → facilityAt s ≡ putOpens f l → m ≡ storeIn s (offset theOpens) (size theOpens) i v
+    → facilityAt m ≡ putOpens f (set l i v)
+unfolding facilityAt putOpens
+opens-step s m f l i v e h =
+    ap (λ (g : ℕ → List ℕ). facilityOf g) (stored s m (fieldOf s) theOpens i v refl h)
+    ∙ ap (λ (x : Facility). putOpens x (set (x .opens) i v)) e
+
+pub opens-first : (s : List ℕ) → facilityAt s ≡ putOpens (facilityAt s) (facilityAt s .opens)
+unfolding facilityAt putOpens
+opens-first s = refl
+
+-- the lengths of fields of bytes that are all there
+pub field-length : (s : List ℕ) (k : ℕ) → offset k + size k ≤ length s → length (fieldOf s k) ≡ size k
+field-length s k h =
+    let a = length-take (size k) (drop (offset k) s) in
+    let b = length-drop (offset k) s in
+    omega arith
+
+pub opens-length : (s : List ℕ) → length s ≡ wholeSize → length (facilityAt s .opens) ≡ mostOpens
+unfolding facilityAt
+opens-length s h = field-length s theOpens (omega arith)
+
+pub lives-length : (s : List ℕ) → length s ≡ wholeSize → length (facilityAt s .lives) ≡ mostObjects
+unfolding facilityAt
+lives-length s h = field-length s theLives (omega arith)
+
+-- what is made of the bytes one after the other
+pub becomes-then : (s m q : List ℕ) (f : Facility) (F : Facility → Facility) → Becomes s m f → Becomes m q (F (facilityAt m)) → Becomes s q (F f)
+becomes-then s m q f F a b = (b .0 ∙ ap F (a .0), b .1 ∙ a .1)
+
+-- the same change
+pub becomes-by : (s m : List ℕ) (x y : Change) → x ≡ y → Becomes s m (changed (facilityAt s) y) → Becomes s m (changed (facilityAt s) x)
+becomes-by s m x y e b = (b .0 ∙ ap (changed (facilityAt s)) (sym e), b .1)
+
+-- a terminated process, a clone, a deleted object
+pub terminated-is : (s m q : List ℕ) (p : ℕ) (r : Process) → r ≡ noProcess → Becomes s m (putProcess (facilityAt s) p r)
+    → Becomes m q (putOpens (facilityAt m) (closeProcess (facilityAt m .opens) p)) → Becomes s q (terminated (facilityAt s) p)
+unfolding putProcess
+terminated-is s m q p r d a b =
+    becomes-then s m q _ (λ x. putOpens x (closeProcess (x .opens) p)) (a .0 ∙ ap (putProcess (facilityAt s) p) d, a .1) b
+
+pub cloned-is : (s m q : List ℕ) (p t : ℕ) (r : Process) → r ≡ processOf (facilityAt s) p → Becomes s m (putProcess (facilityAt s) t r)
+    → Becomes m q (putOpens (facilityAt m) (copyProcess (facilityAt m .opens) p t)) → Becomes s q (cloned (facilityAt s) p t)
+unfolding putProcess
+cloned-is s m q p t r d a b =
+    becomes-then s m q _ (λ x. putOpens x (copyProcess (x .opens) p t)) (a .0 ∙ ap (putProcess (facilityAt s) t) d, a .1) b
+
+dropped-is : (m q : List ℕ) (t : ℕ) → q ≡ storeIn m (offset theLives) (size theLives) t 0 → Becomes m q (dropObject (facilityAt m) t)
+unfolding facilityAt dropObject
+dropped-is m q t h =
+    let e = stored m q (fieldOf m) theLives t 0 refl h in
+    (ap (λ (g : ℕ → List ℕ). facilityOf g) e, ap (λ (g : ℕ → List ℕ). g thePadding) e)
+
+pub deleted-is : (s m q : List ℕ) (t : ℕ) → Becomes s m (putOpens (facilityAt s) (closeObject (facilityAt s .opens) t))
+    → q ≡ storeIn m (offset theLives) (size theLives) t 0 → Becomes s q (deleted (facilityAt s) t)
+deleted-is s m q t a h = becomes-then s m q _ (λ x. dropObject x t) a (dropped-is m q t h)
+
+-- an object more
+at-first : (l : List ℕ) (v : ℕ) → length l ≡ 1 → at (set l 0 v) 0 ≡ v
+at-first l v h = getD-set-same l 0 v 0 (omega arith)
+
+objectWith : (ℕ → List ℕ) → Object → ℕ → ℕ → Facility
+objectWith g o n entered =
+    with (facilityOf g) (facilityOf g .users) (usersIn (facilityOf g)) entered
+    (objectsFrom (set (g theLives) n (o .live)) (set (g theKinds) n (o .kind)) (set (g theLevels) n (o .label .level))
+    (set (g theCategories) n (o .category)) (set (g theDatatypes) n (o .datatype)))
+    (processesIn (facilityOf g)) (g theOpens) (facilityOf g .refusals)
+
+pub added-is : (s m q : List ℕ) (o : Object) (n : ℕ) → length s ≡ wholeSize → n ≡ at (fieldOf s theEntered) 0 → n < mostObjects → fieldOf m ≡ storeObject
+    (fieldOf s) n o
+    → q ≡ storeIn m (offset theEntered) (size theEntered) 0 (n + 1) → facilityAt q ≡ addObject (facilityAt s) o
+unfolding facilityAt addObject putObject objectWith
+added-is s m q o n l e b d h =
+    let g = fieldOf s in
+    let w : at (g theEntered) 0 < mostObjects = omega arith in
+    ap (λ (x : ℕ → List ℕ). facilityOf x) (stored m q (storeObject g n o) theEntered 0 (n + 1) d h)
+    ∙ ap (objectWith g o n) (at-first (g theEntered) (n + 1) (field-length s theEntered (omega arith)))
+    ∙ ap (λ (k : ℕ). objectWith g o k (k + 1)) e
+    ∙ rw (lt-ltb (at (g theEntered) 0) mostObjects w)
+
+pub full-is : (s : List ℕ) (o : Object) (n : ℕ) → n ≡ at (fieldOf s theEntered) 0 → mostObjects ≤ n → facilityAt s ≡ addObject (facilityAt s) o
+unfolding facilityAt addObject
+full-is s o n e b =
+    let w : mostObjects ≤ at (fieldOf s theEntered) 0 = omega arith in
+    rw (le-ltb (at (fieldOf s theEntered) 0) mostObjects w)
+
+-- the counter
+four-set : (l : List ℕ) (a b c d : ℕ) → length l ≡ 4 → fourBytes (set (set (set (set l 0 a) 1 b) 2 c) 3 d) ≡ a + 256 * b + 65536 * c + 16777216 * d
+four-set [] a b c d h = absurd (omega arith)
+four-set (w ∷ []) a b c d h = absurd (omega arith)
+four-set (w ∷ x ∷ []) a b c d h = absurd (omega arith)
+four-set (w ∷ x ∷ y ∷ []) a b c d h = absurd (omega arith)
+four-set (w ∷ x ∷ y ∷ z ∷ []) a b c d h = refl
+four-set (w ∷ x ∷ y ∷ z ∷ u ∷ l) a b c d h = absurd (omega arith)
+
+pub refusals-put : (s m : List ℕ) (a b c d n : ℕ) → length s ≡ wholeSize → fieldOf m ≡ storeField
+    (storeField (storeField (storeField (fieldOf s) theRefusals 0 a) theRefusals 1 b) theRefusals 2 c) theRefusals 3 d
+    → a + 256 * b + 65536 * c + 16777216 * d ≡ n → facilityAt m ≡ putRefusals (facilityAt s) n
+unfolding facilityAt putRefusals
+refusals-put s m a b c d n l e h =
+    ap (λ (g : ℕ → List ℕ). facilityOf g) e
+    ∙ ap (putRefusals (facilityOf (fieldOf s))) (four-set (fieldOf s theRefusals) a b c d (field-length s theRefusals (omega arith)) ∙ h)
+
+pub counted-is : (s m : List ℕ) (n : ℕ) → n ≡ facilityAt s .refusals → n < mostRefusals → facilityAt m ≡ putRefusals (facilityAt s) (n + 1)
+    → facilityAt m ≡ counted (facilityAt s)
+unfolding counted
+counted-is s m n e b h =
+    let w : facilityAt s .refusals < mostRefusals = omega arith in
+    h ∙ ap (λ (k : ℕ). putRefusals (facilityAt s) (k + 1)) e ∙ rw (lt-ltb (facilityAt s .refusals) mostRefusals w)
+
+pub stays-is : (s : List ℕ) (n : ℕ) → n ≡ facilityAt s .refusals → mostRefusals ≤ n → facilityAt s ≡ counted (facilityAt s)
+unfolding counted facilityAt putRefusals
+stays-is s n e b =
+    let w : mostRefusals ≤ fourBytes (fieldOf s theRefusals) = omega arith in
+    rw (le-ltb (fourBytes (fieldOf s theRefusals)) mostRefusals w)

@@ -1,0 +1,237 @@
+-- A facility by value is stored field by field; and what `Becomes` promises fixes every byte.
+use Prim.Native.Nat.{ℕ, suc, _+_, _≤_, zero, _*_, _<_}
+use mathlib.Core.Bool.{cond}
+use mathlib.Core.List.{List, _∷_, [], _++_, append-nil, append-assoc}
+use mathlib.Core.Path.{_≡_, refl, _∙_, ap, fun-ext, sym, ap₂}
+use lib.Dec.{eqb, ltb}
+use lib.Seq.{sets, sets-eq, length-sets, take-add, drop-drop}
+use lib.ListN.{length, drop-of-length-le, set, take, take-append-drop, drop}
+use native.Mathlib.Omega.{arith}
+use borrow.Author.Tests.{eq-eqb, ne-eqb, ltb-true, ltb-false}
+use Rattle.labels.specs.Laws.Decisions.{by-eq, by-test}
+use Rattle.in_place.specs.Stores.{storeField, storeIn, Becomes}
+use Rattle.in_place.specs.Layout.{size, offset, fieldOf, wholeSize, theRefusals, fourBytes, facilityAt, theMac, theFc, theSim, theUsers, theEntered}
+use Rattle.in_place.specs.Layout.{facilityOf, theOpens, thePadding}
+use Rattle.in_place.specs.Laws.Stores.{store-inside, stored, before, length-store}
+use Rattle.in_place.specs.Fields.{Fields, putField, Bytes, countsPut, usersPut, objectsPut, processesPut}
+use Rattle.in_place.specs.Laws.Changes.{field-length}
+use Rattle.labels.specs.Decisions.{at}
+use Rattle.in_place.specs.Laws.Layout.{byte-in, byte-past}
+use Rattle.state.specs.declared.Facility.{Facility}
+use Rattle.opens.specs.Opens.{mostOpens}
+use Rattle.state.specs.State.{usersIn, objectsIn, processesIn, putRefusals, putOpens}
+
+-- the fields with the bytes of field k from its byte i on replaced, and with all of it replaced
+abbrev putBytes : (ℕ → List ℕ) → ℕ → ℕ → List ℕ → ℕ → List ℕ
+putBytes g k i l j = cond (eqb j k) (sets (g k) i l) (g j)
+
+one-more : (g : ℕ → List ℕ) (k i x : ℕ) (xs : List ℕ) (j : ℕ) → putBytes (storeField g k i x) k (suc i) xs j ≡ putBytes g k i (x ∷ xs) j
+one-more g k i x xs j = by-eq j k (λ e. rw (eq-eqb j k e, eq-eqb k k refl)) (λ e. rw (ne-eqb j k e))
+
+bytes-put : (l s : List ℕ) (k i : ℕ) → i + length l ≤ size k → fieldOf (sets s (offset k + i) l) ≡ putBytes (fieldOf s) k i l
+bytes-put [] s k i h = fun-ext (λ j. by-eq j k (λ e. rw (eq-eqb j k e) (ap (fieldOf s) e)) (λ e. rw (ne-eqb j k e)))
+bytes-put (x ∷ xs) s k i h =
+    let m = storeIn s (offset k) (size k) i x in
+    let q : suc (offset k + i) ≡ offset k + suc i = omega arith in
+    ap (λ (l : List ℕ). fieldOf (sets l (suc (offset k + i)) xs)) (store-inside s (offset k) (size k) i x (omega arith))
+    ∙ ap (λ (n : ℕ). fieldOf (sets m n xs)) q
+    ∙ bytes-put xs m k (suc i) (omega arith)
+    ∙ ap (λ (g : ℕ → List ℕ). putBytes g k (suc i) xs) (stored s m (fieldOf s) k i x refl refl)
+    ∙ fun-ext (λ j. one-more (fieldOf s) k i x xs j)
+
+all-set : (l o : List ℕ) → length l ≡ length o → sets o 0 l ≡ l
+all-set l o h =
+    sets-eq l o 0 (omega arith)
+    ∙ ap (λ (r : List ℕ). l ++ r) (drop-of-length-le o {i = 0 + length l} (omega arith))
+    ∙ append-nil l
+
+pub fields-of : (s : List ℕ) → length s ≡ wholeSize → Fields s (fieldOf s)
+fields-of s h = record { long = h; are = refl }
+
+within : (s : List ℕ) (g : ℕ → List ℕ) (k : ℕ) → Fields s g → k ≤ theRefusals → offset k + size k ≤ length s
+within s g k h b = let w = before k (suc theRefusals) (omega arith) in let l = h .long in omega arith
+
+-- what the code's store of a whole field, and of a field of one byte, makes of the fields
+pub field-stored : (s m l : List ℕ) (g : ℕ → List ℕ) (k : ℕ) → Fields s g → k ≤ theRefusals → length l ≡ size k → m ≡ sets s (offset k) l
+    → Fields m (putField g k l)
+field-stored s m l g k f b n h =
+    let z : offset k ≡ offset k + 0 = omega arith in
+    let w = field-length s k (within s g k f b) in
+    record {
+      long = ap length h ∙ length-sets s (offset k) l ∙ f .long;
+      are =
+          ap fieldOf h ∙ ap (λ (i : ℕ). fieldOf (sets s i l)) z ∙ bytes-put l s k 0 (omega arith)
+          ∙ ap (λ (x : List ℕ). putField (fieldOf s) k x) (all-set l (fieldOf s k) (omega arith))
+          ∙ ap (λ (x : ℕ → List ℕ). putField x k l) (f .are);
+    }
+
+only-byte : (l : List ℕ) (v : ℕ) → length l ≡ 1 → set l 0 v ≡ v ∷ []
+only-byte [] v h = absurd (omega arith)
+only-byte (x ∷ []) v h = refl
+only-byte (x ∷ y ∷ l) v h = absurd (omega arith)
+
+pub byte-stored : (s m : List ℕ) (g : ℕ → List ℕ) (k v : ℕ) → Fields s g → k ≤ theRefusals → size k ≡ 1 → m ≡ storeIn s (offset k) (size k) 0 v
+    → Fields m (putField g k (v ∷ []))
+byte-stored s m g k v f b z h =
+    let n : length (g k) ≡ 1 = ap (λ (x : ℕ → List ℕ). length (x k)) (sym (f .are)) ∙ field-length s k (within s g k f b) ∙ z in
+    record {
+      long = ap length h ∙ length-store s (offset k) (size k) 0 v ∙ f .long;
+      are = stored s m g k 0 v (f .are) h ∙ ap (λ (x : List ℕ). putField g k x) (only-byte (g k) v n);
+    }
+
+-- two lists of bytes agree where their first k fields do
+abbrev Agree : List ℕ → List ℕ → ℕ → Type 0
+Agree m n zero = Unit {0}
+Agree m n (suc k) = Agree m n k × (fieldOf m k ≡ fieldOf n k)
+
+agree-taken : (m n : List ℕ) (k : ℕ) → Agree m n k → take (offset k) m ≡ take (offset k) n
+agree-taken m n zero h = refl
+agree-taken m n (suc k) h =
+    take-add (offset k) (size k) m ∙ ap₂ (λ (x y : List ℕ). x ++ y) (agree-taken m n k (h .0)) (h .1) ∙ sym (take-add (offset k) (size k) n)
+
+all-taken : (m : List ℕ) (k : ℕ) → length m ≤ k → take k m ≡ m
+all-taken m k h =
+    sym (ap (λ (r : List ℕ). take k m ++ r) (drop-of-length-le m {i = k} h) ∙ append-nil (take k m)) ∙ take-append-drop k m
+
+one-byte : (l r : List ℕ) → length l ≡ 1 → length r ≡ 1 → at l 0 ≡ at r 0 → l ≡ r
+one-byte [] r h k e = absurd (omega arith)
+one-byte (x ∷ y ∷ l) r h k e = absurd (omega arith)
+one-byte (x ∷ []) [] h k e = absurd (omega arith)
+one-byte (x ∷ []) (y ∷ z ∷ r) h k e = absurd (omega arith)
+one-byte (x ∷ []) (y ∷ []) h k e = ap (λ (v : ℕ). v ∷ []) e
+
+four-bytes : (a b c d x y z w : ℕ) → a < 256 → b < 256 → c < 256 → x < 256 → y < 256 → z < 256
+    → a + 256 * b + 65536 * c + 16777216 * d ≡ x + 256 * y + 65536 * z + 16777216 * w → (a ≡ x) × (b ≡ y) × (c ≡ z) × (d ≡ w)
+four-bytes a b c d x y z w ha hb hc hx hy hz e = (omega arith, omega arith, omega arith, omega arith)
+
+-- the counter's bytes
+same-four : (l r : List ℕ) → length l ≡ 4 → length r ≡ 4 → ((i : ℕ) → at l i < 256) → ((i : ℕ) → at r i < 256) → fourBytes l ≡ fourBytes r → l ≡ r
+same-four [] r h k b d e = absurd (omega arith)
+same-four (t ∷ []) r h k b d e = absurd (omega arith)
+same-four (t ∷ u ∷ []) r h k b d e = absurd (omega arith)
+same-four (t ∷ u ∷ v ∷ []) r h k b d e = absurd (omega arith)
+same-four (t ∷ u ∷ v ∷ w ∷ q ∷ l) r h k b d e = absurd (omega arith)
+same-four (t ∷ u ∷ v ∷ w ∷ []) [] h k b d e = absurd (omega arith)
+same-four (t ∷ u ∷ v ∷ w ∷ []) (x ∷ []) h k b d e = absurd (omega arith)
+same-four (t ∷ u ∷ v ∷ w ∷ []) (x ∷ y ∷ []) h k b d e = absurd (omega arith)
+same-four (t ∷ u ∷ v ∷ w ∷ []) (x ∷ y ∷ z ∷ []) h k b d e = absurd (omega arith)
+same-four (t ∷ u ∷ v ∷ w ∷ []) (x ∷ y ∷ z ∷ p ∷ q ∷ r) h k b d e = absurd (omega arith)
+same-four (t ∷ u ∷ v ∷ w ∷ []) (x ∷ y ∷ z ∷ p ∷ []) h k b d e =
+    let f = four-bytes t u v w x y z p (b 0) (b 1) (b 2) (d 0) (d 1) (d 2) e in
+    λ i. f .0 i ∷ f .1 i ∷ f .2 i ∷ f .3 i ∷ []
+
+-- a byte of a field is a byte
+field-byte : (m : List ℕ) (k i : ℕ) → ((j : ℕ) → at m j < 256) → at (fieldOf m k) i < 256
+field-byte m k i h =
+    by-test (ltb i (size k))
+    (λ t. let b = h (offset k + i) in let e = byte-in m (offset k) (size k) i (ltb-true i (size k) t) in omega arith)
+    (λ t. let e = byte-past m (offset k) (size k) i (ltb-false i (size k) t) in omega arith)
+
+-- a field of one byte
+field-of-one : (m n : List ℕ) (k : ℕ) → length m ≡ wholeSize → length n ≡ wholeSize → offset k + size k ≤ wholeSize → size k ≡ 1
+    → at (fieldOf m k) 0 ≡ at (fieldOf n k) 0 → fieldOf m k ≡ fieldOf n k
+field-of-one m n k a b h z e =
+    let x = field-length m k (omega arith) in
+    let y = field-length n k (omega arith) in
+    one-byte (fieldOf m k) (fieldOf n k) (omega arith) (omega arith) e
+
+-- What `Becomes` promises fixes every byte: bytes of the same facility with the same padding are the same bytes.
+pub becomes-unique : (s m n : List ℕ) (f : Facility) → Bytes m → Bytes n → Becomes s m f → Becomes s n f → m ≡ n
+unfolding facilityAt
+becomes-unique s m n f a b p q =
+    let e = p .0 ∙ sym (q .0) in
+    let la = a .long in
+    let lb = b .long in
+    let mac = field-of-one m n theMac la lb (omega arith) refl (ap (λ (x : Facility). x .mac) e) in
+    let fc = field-of-one m n theFc la lb (omega arith) refl (ap (λ (x : Facility). x .fc) e) in
+    let sim = field-of-one m n theSim la lb (omega arith) refl (ap (λ (x : Facility). x .sim) e) in
+    let users = field-of-one m n theUsers la lb (omega arith) refl (ap (λ (x : Facility). x .users) e) in
+    let entered = field-of-one m n theEntered la lb (omega arith) refl (ap (λ (x : Facility). x .entered) e) in
+    let refusals =
+    same-four (fieldOf m theRefusals) (fieldOf n theRefusals) (field-length m theRefusals (omega arith)) (field-length n theRefusals (omega arith))
+    (λ i. field-byte m theRefusals i (a .below)) (λ i. field-byte n theRefusals i (b .below)) (ap (λ (x : Facility). x .refusals) e) in
+    sym (all-taken m wholeSize (omega arith))
+    ∙ agree-taken m n (suc theRefusals) (
+      (
+        (
+          (
+            (
+              (
+                (
+                  (
+                    (
+                      (
+                        (
+                          (
+                            (
+                              (
+                                (
+                                  (
+                                    (
+                                      (
+                                        ((((tt, mac), fc), sim), users),
+                                        ap (λ (x : Facility). x .clearances) e,
+                                      ),
+                                      ap (λ (x : Facility). x .roles) e,
+                                    ),
+                                    ap (λ (x : Facility). x .trusts) e,
+                                  ),
+                                  entered,
+                                ),
+                                ap (λ (x : Facility). x .lives) e,
+                              ),
+                              ap (λ (x : Facility). x .kinds) e,
+                            ),
+                            ap (λ (x : Facility). x .levels) e,
+                          ),
+                          ap (λ (x : Facility). x .categories) e,
+                        ),
+                        ap (λ (x : Facility). x .datatypes) e,
+                      ),
+                      ap (λ (x : Facility). x .runnings) e,
+                    ),
+                    ap (λ (x : Facility). x .owners) e,
+                  ),
+                  ap (λ (x : Facility). x .currents) e,
+                ),
+                ap (λ (x : Facility). x .readmarks) e,
+              ),
+              ap (λ (x : Facility). x .writemarks) e,
+            ),
+            ap (λ (x : Facility). x .automatics) e,
+          ),
+          ap (λ (x : Facility). x .opens) e,
+        ),
+        p .1 ∙ sym (q .1),
+      ),
+      refusals,
+    )
+    ∙ all-taken n wholeSize (omega arith)
+
+-- A facility by value is stored field by field: the bytes become its.
+pub stored-whole : (s m1 m2 m3 m4 m5 m6 : List ℕ) (f : Facility) → length (f .opens) ≡ mostOpens
+    → Fields m1 (countsPut (fieldOf s) (f .mac) (f .fc) (f .sim) (f .users) (f .entered))
+    → Fields m2 (usersPut (fieldOf m1) (usersIn f)) → Fields m3 (objectsPut (fieldOf m2) (objectsIn f)) → Fields m4 (processesPut (fieldOf m3) (processesIn f))
+    → m5 ≡ sets m4 (offset theOpens) (f .opens) → Becomes m5 m6 (putRefusals (facilityAt m5) (f .refusals))
+    → Becomes s m6 f
+unfolding facilityAt putRefusals
+stored-whole s m1 m2 m3 m4 m5 m6 f n h1 h2 h3 h4 h5 h6 =
+    let e2 = h2 .are ∙ ap (λ (g : ℕ → List ℕ). usersPut g (usersIn f)) (h1 .are) in
+    let e3 = h3 .are ∙ ap (λ (g : ℕ → List ℕ). objectsPut g (objectsIn f)) e2 in
+    let e4 = h4 .are ∙ ap (λ (g : ℕ → List ℕ). processesPut g (processesIn f)) e3 in
+    let f5 = field-stored m4 m5 (f .opens) (fieldOf m4) theOpens (fields-of m4 (h4 .long)) (omega arith) n h5 in
+    let e5 = f5 .are ∙ ap (λ (g : ℕ → List ℕ). putField g theOpens (f .opens)) e4 in
+    (h6 .0 ∙ ap (λ (g : ℕ → List ℕ). putRefusals (facilityOf g) (f .refusals)) e5, h6 .1 ∙ ap (λ (g : ℕ → List ℕ). g thePadding) e5)
+
+-- the opens are lent, and come back changed
+pub opens-lent : (s l : List ℕ) → length s ≡ wholeSize → length l ≡ mostOpens
+    → Becomes s (take (offset theOpens) s ++ (l ++ drop mostOpens (drop (offset theOpens) s))) (putOpens (facilityAt s) l)
+unfolding facilityAt putOpens
+opens-lent s l n e =
+    let k : offset theOpens + length l ≡ offset theOpens + mostOpens = ap (λ (x : ℕ). offset theOpens + x) e in
+    let h : take (offset theOpens) s ++ (l ++ drop mostOpens (drop (offset theOpens) s)) ≡ sets s (offset theOpens) l =
+    ap (λ (r : List ℕ). take (offset theOpens) s ++ (l ++ r)) (drop-drop mostOpens (offset theOpens) s ∙ ap (λ (x : ℕ). drop x s) (sym k))
+    ∙ sym (append-assoc (take (offset theOpens) s) l (drop (offset theOpens + length l) s))
+    ∙ sym (sets-eq l s (offset theOpens) (omega (arith, n, e))) in
+    let a = field-stored s _ l (fieldOf s) theOpens (fields-of s n) (omega arith) e h .are in
+    (ap (λ (g : ℕ → List ℕ). facilityOf g) a, ap (λ (g : ℕ → List ℕ). g thePadding) a)

@@ -1,0 +1,12 @@
+-- The result is `same self other`.
+use Rattle.labels.proofs.Label.same.Statement.{statement}
+use Rattle.labels.proofs.Label.same.Tie as tie
+use mathlib.Core.Path.{refl}
+use Rattle.labels.specs.Labels.{same}
+
+returns : tie.Need-returns
+unfolding same
+returns c = refl
+
+pub same-spec : {M : Type 1} → statement M
+same-spec = tie.close (tie.spec returns)

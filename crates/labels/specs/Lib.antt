@@ -1,0 +1,4 @@
+-- Definitions: decisions, and labels.
+pub mod Decisions
+pub mod Labels
+pub mod Laws

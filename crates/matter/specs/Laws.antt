@@ -1,0 +1,4 @@
+-- Laws, which other crates cite; nobody has to read their proofs.
+pub mod AfterCalls
+pub mod BitRows
+pub mod LedgerIsAccount

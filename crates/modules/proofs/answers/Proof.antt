@@ -1,0 +1,13 @@
+-- The result is `answers k v c`.
+use Rattle.modules.proofs.answers.Statement.{statement}
+use Rattle.modules.proofs.answers.Tie as tie
+use borrow.Author.Needs.{needs}
+use Rattle.rules.specs.Modules.{answers}
+
+returns : tie.Need-returns
+unfolding answers
+returns c = rw (c .of .ensures, c .before .sim-answer .ensures, c .before .before .fc-answer .ensures, c .before .before .before .mac-answer .ensures)
+
+pub answers-spec : {M : Type 1} → statement M
+answers-spec =
+    tie.close (tie.spec (λ c κs. search needs) (λ c κs. search needs) (λ c κs. search needs) (λ c κs. search needs) returns)

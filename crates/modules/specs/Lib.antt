@@ -1,0 +1,2 @@
+-- Laws of the modules' rules.
+pub mod Laws

@@ -1,0 +1,257 @@
+// What the modules answer, and MAC's moves of the caller.
+ghost use mathlib.Core.Bool.{false};
+ghost use mathlib.Core.Path.{_≡_};
+ghost use Rattle.rules.specs.Modules.{answers, classIn, fcAnswer, fcRule, levelled, macAnswer, macClass, macObject, macRule, macSignal, mayRead, maySet};
+ghost use Rattle.rules.specs.Modules.{mayWrite, moveBy, moved, setLevel, simAnswer, simRule, wanted};
+ghost use Rattle.rules.specs.Requests.{needsObject};
+use answers::Answer;
+use answers::Answers;
+use labels::Label;
+use rules::Action;
+use rules::Class;
+use rules::View;
+use state::Call;
+use state::Object;
+use state::Process;
+use state::User;
+
+// MAC's rule for R: l is the object's label, clr the clearance of the process's owner.
+fn may_read(l: Label, r: Process, clr: Label) -> bool
+    ensures { λ x. ⌜ x ≡ mayRead l r clr ⌝ }
+{
+    let below = l.at_most(r.current);
+    let free = l.at_most(r.writemark) & l.at_most(clr);
+    below | ((r.automatic == 1) & free)
+}
+
+// MAC's rule for W and B.
+fn may_write(l: Label, r: Process, clr: Label) -> bool
+    ensures { λ x. ⌜ x ≡ mayWrite l r clr ⌝ }
+{
+    let held = l.same(r.current);
+    let low = r.readmark;
+    let free = low.at_most(l) & (l.at_most(r.writemark) & l.at_most(clr));
+    held | ((r.automatic == 1) & free)
+}
+
+// MAC's rule for set-level.
+fn may_set(l: Label, r: Process, clr: Label) -> bool
+    ensures { λ x. ⌜ x ≡ maySet l r clr ⌝ }
+{
+    let low = r.readmark;
+    low.at_most(l) & (l.at_most(r.writemark) & l.at_most(clr))
+}
+
+// MAC by class, for an untrusted owner.
+fn mac_class(k: Class, l: Label, r: Process, clr: Label) -> Answer
+    ensures { λ x. ⌜ x ≡ macClass k l r clr ⌝ }
+{
+    match k {
+        Class::Absent => Answer::NotGranted,
+        Class::Reads => Answer::grant(may_read(l, r, clr)),
+        Class::Writes => Answer::grant(may_write(l, r, clr)),
+        Class::Both => Answer::grant(may_write(l, r, clr)),
+        Class::NoCondition => Answer::Granted,
+    }
+}
+
+// MAC on an object: undefined where its level is unset, granted to a trusted owner, else by class.
+fn mac_object(k: Class, o: Object, r: Process, u: User) -> Answer
+    ensures { λ x. ⌜ x ≡ macObject k o r u ⌝ }
+{
+    let l = o.label;
+    if !l.is_given() {
+        return Answer::Undefined;
+    }
+    if u.trusted == 1 {
+        return Answer::Granted;
+    }
+    mac_class(k, l, r, u.clearance)
+}
+
+// MAC on send-signal.
+fn mac_signal(r: Process, u: User, receiver: Process) -> Answer
+    ensures { λ x. ⌜ x ≡ macSignal r u receiver ⌝ }
+{
+    let here = r.current;
+    let equal = here.same(receiver.current);
+    Answer::grant((u.trusted == 1) | equal)
+}
+
+// FC on an object.
+fn fc_rule(o: Object, u: User) -> Answer
+    ensures { λ x. ⌜ x ≡ fcRule o u ⌝ }
+{
+    if o.category == labels::UNSET {
+        return Answer::Undefined;
+    }
+    Answer::grant((o.category == 0) | (o.category == u.role))
+}
+
+// SIM on an object.
+fn sim_rule(request: u8, k: Class, o: Object, u: User) -> Answer
+    ensures { λ x. ⌜ x ≡ simRule request k o u ⌝ }
+{
+    let changes = requests::alters(k) | (request == 19);
+    if changes & (o.datatype == 1) {
+        return Answer::grant(u.role == 1);
+    }
+    Answer::NotCared
+}
+
+// MAC's move of a process by class, on an object with label l.
+fn move_by(k: Class, l: Label, r: Process) -> Process
+    ensures { λ x. ⌜ x ≡ moveBy k l r ⌝ }
+{
+    match k {
+        Class::Absent => r,
+        Class::Reads => after_read(l, r),
+        Class::Writes => after_write(l, r),
+        Class::Both => after_both(l, r),
+        Class::NoCondition => r,
+    }
+}
+
+fn after_read(l: Label, mut r: Process) -> Process
+    ensures { λ x. ⌜ x ≡ moveBy Class.Reads l r ⌝ }
+{
+    r.current = r.current.join(l);
+    r.readmark = r.readmark.join(l);
+    r
+}
+
+fn after_write(l: Label, mut r: Process) -> Process
+    ensures { λ x. ⌜ x ≡ moveBy Class.Writes l r ⌝ }
+{
+    r.current = l;
+    r.writemark = r.writemark.meet(l);
+    r
+}
+
+fn after_both(l: Label, mut r: Process) -> Process
+    ensures { λ x. ⌜ x ≡ moveBy Class.Both l r ⌝ }
+{
+    r.current = l;
+    r.readmark = l;
+    r.writemark = l;
+    r
+}
+
+// The process after set-level.
+fn set_level(l: Label, mut r: Process) -> Process
+    ensures { λ x. ⌜ x ≡ setLevel l r ⌝ }
+{
+    r.current = l;
+    r.automatic = 0;
+    r
+}
+
+// The class of a call by the kind of its object.
+pub fn class_in(v: View, c: Call) -> Class
+    ensures { λ x. ⌜ x ≡ classIn v c ⌝ }
+{
+    requests::class_of(c.request, v.target.object.kind)
+}
+
+// MAC on an object target.
+fn mac_target(v: View, c: Call) -> Answer
+    ensures { λ x. ⌜ x ≡ macObject (classIn v c) (v .target .object) (v .caller) (v .owner) ⌝ }
+{
+    mac_object(class_in(v, c), v.target.object, v.caller, v.owner)
+}
+
+// The label that set-level asks for.
+fn wanted(c: Call) -> Label
+    ensures { λ x. ⌜ x ≡ wanted c ⌝ }
+{
+    Label::of(c.extra)
+}
+
+fn mac_set_level(v: View, c: Call) -> Answer
+    ensures { λ x. ⌜ x ≡ macRule Action.SetLevel v c ⌝ }
+{
+    Answer::grant(may_set(wanted(c), v.caller, v.owner.clearance))
+}
+
+// MAC's rule for a request that needs no object.
+fn mac_without_object(k: Action, v: View, c: Call) -> Answer
+    requires { ⌜ needsObject k (c .extra) ≡ false ⌝ }
+    ensures { λ x. ⌜ x ≡ macRule k v c ⌝ }
+{
+    match k {
+        Action::Login => Answer::Granted,
+        Action::Clone => Answer::Granted,
+        Action::SendSignal => mac_signal(v.caller, v.owner, v.target.receiver),
+        Action::SetLevel => mac_set_level(v, c),
+        Action::Terminate => Answer::Granted,
+        Action::Create => Answer::Granted,
+        Action::OnObject => Answer::NotGranted,
+        Action::Unknown => Answer::NotGranted,
+    }
+}
+
+// MAC's rule.
+fn mac_rule(k: Action, v: View, c: Call) -> Answer
+    ensures { λ x. ⌜ x ≡ macRule k v c ⌝ }
+{
+    if requests::needs_object(k, c.extra) {
+        return mac_target(v, c);
+    }
+    mac_without_object(k, v, c)
+}
+
+// The answers of the modules: one that is off does not care.
+fn mac_answer(k: Action, v: View, c: Call) -> Answer
+    ensures { λ x. ⌜ x ≡ macAnswer k v c ⌝ }
+{
+    if v.switches.mac == 1 {
+        return mac_rule(k, v, c);
+    }
+    Answer::NotCared
+}
+
+fn fc_answer(k: Action, v: View, c: Call) -> Answer
+    ensures { λ x. ⌜ x ≡ fcAnswer k v c ⌝ }
+{
+    let target = requests::needs_object(k, c.extra);
+    if (v.switches.fc == 1) & target {
+        return fc_rule(v.target.object, v.owner);
+    }
+    Answer::NotCared
+}
+
+fn sim_answer(k: Action, v: View, c: Call) -> Answer
+    ensures { λ x. ⌜ x ≡ simAnswer k v c ⌝ }
+{
+    let target = requests::needs_object(k, c.extra);
+    if (v.switches.sim == 1) & target {
+        return sim_rule(c.request, class_in(v, c), v.target.object, v.owner);
+    }
+    Answer::NotCared
+}
+
+pub fn answers(k: Action, v: View, c: Call) -> Answers
+    ensures { λ x. ⌜ x ≡ answers k v c ⌝ }
+{
+    Answers::of(mac_answer(k, v, c), fc_answer(k, v, c), sim_answer(k, v, c))
+}
+
+// The caller after an accepted call on an object.
+pub fn moved(v: View, c: Call) -> Process
+    ensures { λ x. ⌜ x ≡ moved v c ⌝ }
+{
+    if (v.switches.mac == 1) & !(v.owner.trusted == 1) {
+        return move_by(class_in(v, c), v.target.object.label, v.caller);
+    }
+    v.caller
+}
+
+// The caller after an accepted set-level.
+pub fn levelled(v: View, c: Call) -> Process
+    ensures { λ x. ⌜ x ≡ levelled v c ⌝ }
+{
+    if v.switches.mac == 1 {
+        return set_level(wanted(c), v.caller);
+    }
+    v.caller
+}

@@ -1,2 +1,0 @@
--- Words for numbers.
-pub mod Names

@@ -1,0 +1,10 @@
+-- A place past the end has no mark.
+use lib.ListN.{List·getD-eq-default}
+use mathlib.Core.Path.{sym}
+use borrow.Author.Needs.{needs}
+use Rattle.opens.proofs.mark_at.Statement.{statement}
+use Rattle.opens.proofs.mark_at.Tie as tie
+
+pub mark-at-spec : {M : Type 1} → statement M
+mark-at-spec =
+    tie.close (tie.spec (λ c. search needs) (λ c. search needs) (λ c. sym (List·getD-eq-default (c .before .args .marks .now) 0 (search needs))))

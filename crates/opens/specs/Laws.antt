@@ -1,0 +1,3 @@
+-- Laws, which other crates cite; nobody has to read their proofs.
+pub mod Loops
+pub mod Opens

@@ -1,0 +1,3 @@
+-- Definitions: the opens.
+pub mod Opens
+pub mod Laws

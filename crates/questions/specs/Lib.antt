@@ -1,0 +1,3 @@
+-- Definitions beside document 01's: the questions in parts.
+pub mod Parts
+pub mod Laws

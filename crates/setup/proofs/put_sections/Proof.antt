@@ -1,0 +1,43 @@
+-- Each section is stored behind the one before it.
+use Rattle.setup.proofs.put_sections.Statement.{statement}
+use Rattle.setup.proofs.put_sections.Tie as tie
+use Prim.Native.Nat.{_≤_}
+use mathlib.Core.Path.{subst}
+use mathlib.Core.List.{[], _∷_}
+use native.Mathlib.Omega.{arith}
+use borrow.Author.Needs.{needs}
+use Rattle.state.specs.State.{switchesOf, usersIn, userIn}
+use Rattle.rules.specs.declared.SetupRecord.{SetupRecord}
+use Rattle.rules.specs.Setup.{switchesRecord, userRecord, every, usersSection, objectsSection, setupRecords}
+use Rattle.setup.specs.Writing.{Stored}
+use Rattle.setup.specs.Laws.WritingLoop.{section-most, nothing, then}
+
+put-objects-requires : tie.Need-put-objects-requires
+put-objects-requires c κs =
+    let users = c .before .before .before .before .before .before .before .before .before .before .before .before .before .before in
+    let first = users .before .before .before .before .before .before .before .before .before .before .before in
+    let f = first .before .before .before .before .args .t1 in
+    let h = section-most userRecord (f .users) every (userIn (usersIn f)) _ _ _ (users .put-users .result) (users .put-users .ensures) in
+    let g = first .before .before .before .before .good in
+    let n : f .users ≤ 255 = search (needs, g) in
+    omega (arith, first .put-record .ensures .place)
+
+returns : tie.Need-returns
+unfolding setupRecords
+returns c =
+    let objects = c .before .before in
+    let users = objects .before .before .before .before .before .before .before .before .before .before .before .before .before .before .before in
+    let first = users .before .before .before .before .before .before .before .before .before .before .before in
+    let a = first .before .before .before .before .args in
+    let f = a .t1 in
+    let o = a .out .now in
+    let s = subst (λ (r : SetupRecord). Stored o 0 (r ∷ []) (first .put-record .last .0) (first .put-record .result))
+    (first .before .before .switches-record .ensures) (first .put-record .ensures) in
+    then o _ _ 0 _ _ (switchesRecord (switchesOf f) ∷ []) _ s
+    (then _ _ _ _ _ _ (usersSection f) _ (users .put-users .ensures)
+    (then _ _ _ _ _ _ (objectsSection f) [] (objects .put-objects .ensures) (nothing _ _)))
+
+pub put-sections-spec : {M : Type 1} → statement M
+put-sections-spec =
+    tie.close
+    (tie.spec (λ c κs. search needs) (λ c κs. search needs) (λ c κs. search needs) put-objects-requires (λ c. search needs) returns)

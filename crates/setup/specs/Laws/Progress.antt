@@ -1,0 +1,87 @@
+-- What the reader keeps answers the questions as the records before do.
+use Prim.Native.Nat.{ℕ, _≤_, _+_}
+use mathlib.Core.Path.{_≡_, refl, _∙_, ap, sym}
+use mathlib.Core.Bool.{true, Bool, false}
+use mathlib.Core.List.{List, [], _∷_}
+use mathlib.Core.Logic.{_≢_}
+use lib.Dec.{eqb, ltb}
+use lib.ListN.{length}
+use native.Mathlib.Omega.{arith}
+use borrow.Author.Tests.{eq-eqb, ne-eqb}
+use Rattle.rules.specs.declared.SetupRecord.{SetupRecord}
+use Rattle.rules.specs.declared.Also.{Also}
+use Rattle.rules.specs.declared.Also.the-variants.{Nothing}
+use Rattle.rules.specs.Kinds.{alsoAllowed, countOf, kindOf, placeOf, fits, room, allowedBy, allowed, recordNumber}
+use Rattle.setup.specs.declared.Progress.{Progress}
+use Rattle.labels.specs.Laws.Decisions.{by-test, by-eq}
+use Rattle.setup.specs.Progress.{countAfter, fitsAfter, numberAfter, progressAfter}
+use Rattle.rules.specs.Proofs.Past.{InOrder, order-none, count-same, order-more}
+use Rattle.labels.specs.Decisions.{ask}
+
+-- of these kinds nothing is asked of the bytes together
+pub nothing-asked : (a : Also) (r : SetupRecord) → alsoAllowed a r ≡ true
+nothing-asked Nothing r = refl
+
+pub count-most-after : (p : Progress) (kind : ℕ) → countAfter p kind ≤ p .count
+count-most-after p kind = by-test (eqb (p .kind) kind) (λ e. rw e (omega arith)) (λ e. rw e (omega arith))
+
+-- p is kept of these records
+pub data Kept (p : Progress) : List SetupRecord → Type 0 where
+  none : p .kind ≡ 0 → p .count ≡ 0 → Kept p []
+  some : (q : SetupRecord) (past : List SetupRecord) → p .kind ≡ q .kind → p .count ≡ countOf (q .kind) (q ∷ past) → InOrder (q ∷ past)
+      → Kept p (q ∷ past)
+
+no-place : (kindOf 0) .place ≡ 0
+unfolding kindOf
+no-place = refl
+
+placed : (k : ℕ) → 1 ≤ (kindOf k) .place → k ≢ 0
+placed k h e = let z : (kindOf k) .place ≡ 0 = ap (λ (j : ℕ). (kindOf j) .place) e ∙ no-place in absurd (omega arith)
+
+fits-same : (p : Progress) (past : List SetupRecord) (r : SetupRecord) → Kept p past → fitsAfter p (placeOf r) ≡ fits past r
+unfolding fits
+fits-same p [] r (none a b) = rw (eq-eqb (p .kind) 0 a)
+fits-same p (q ∷ past) r (some x xs a b o) = rw (a, ne-eqb (q .kind) 0 (placed (q .kind) (o .0)))
+
+count-none : (k : ℕ) → 0 ≡ countOf k []
+unfolding countOf
+count-none k = refl
+
+count-is : (p : Progress) (past : List SetupRecord) (r : SetupRecord) → Kept p past → fits past r ≡ true → countAfter p (r .kind) ≡ countOf (r .kind) past
+count-is p [] r (none a b) h =
+    by-test (eqb (p .kind) (r .kind)) (λ e. rw e (b ∙ count-none (r .kind))) (λ e. rw e (count-none (r .kind)))
+count-is p (q ∷ past) r (some x xs a b o) h =
+    by-eq (q .kind) (r .kind)
+    (λ e. rw (a, eq-eqb (q .kind) (r .kind) e) (b ∙ ap (λ (k : ℕ). countOf k (q ∷ past)) e))
+    (λ d. rw (a, ne-eqb (q .kind) (r .kind) d) (sym (order-none q past r h o d)))
+
+ask-same : (a b : Bool) (n x y : ℕ) → a ≡ b → (b ≡ true → x ≡ y) → ask a n x ≡ ask b n y
+unfolding ask
+ask-same a true n x y e h = rw e (h refl)
+ask-same a false n x y e h = rw e
+
+pub number-same : (p : Progress) (past : List SetupRecord) (r : SetupRecord) → Kept p past → numberAfter p r ≡ recordNumber past r
+unfolding numberAfter recordNumber room allowed
+number-same p past r K =
+    ask-same _ _ 15 _ _ (fits-same p past r K) (λ h.
+    ap (λ (n : ℕ). ask (ltb n ((kindOf (r .kind)) .most)) 16 (ask (allowedBy (kindOf (r .kind)) r) 17 0)) (count-is p past r K h))
+
+-- after a record that fits it is kept of one record more
+pub kept-more : (p : Progress) (past : List SetupRecord) (r : SetupRecord) → Kept p past → fits past r ≡ true → Kept (progressAfter p (r .kind)) (r ∷ past)
+kept-more p [] r K h =
+    some r [] refl (ap (λ (n : ℕ). n + 1) (count-is p [] r K h) ∙ sym (count-same (r .kind) r [] refl)) (order-more [] r h tt)
+kept-more p (q ∷ past) r (some x xs a b o) h =
+    some r (q ∷ past) refl (ap (λ (n : ℕ). n + 1) (count-is p (q ∷ past) r (some x xs a b o) h) ∙ sym (count-same (r .kind) r (q ∷ past) refl))
+    (order-more (q ∷ past) r h o)
+
+-- it counts no more than there are
+count-most : (k : ℕ) (past : List SetupRecord) → countOf k past ≤ length past
+unfolding countOf
+count-most k [] = omega arith
+count-most k (q ∷ past) =
+    let h = count-most k past in
+    by-test (eqb (q .kind) k) (λ e. rw e (omega arith)) (λ e. rw e (omega arith))
+
+pub kept-few : (p : Progress) (past : List SetupRecord) → Kept p past → p .count ≤ length past
+kept-few p [] (none a b) = omega arith
+kept-few p (q ∷ past) (some x xs a b o) = let h = count-most (q .kind) (q ∷ past) in omega arith

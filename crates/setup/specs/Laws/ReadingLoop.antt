@@ -1,0 +1,120 @@
+-- The loop that reads records is the definition's reading.
+use Prim.Native.Nat.{ℕ, _*_, _-_, suc, _+_, _<_, zero, _≤_, _/_, _%_}
+use mathlib.Core.List.{List, _∷_, []}
+use mathlib.Core.Path.{_≡_, _∙_, ap, refl, sym, subst⁻¹}
+use mathlib.Core.Logic.{_≢_}
+use mathlib.Core.Bool.{true, false}
+use lib.ListN.{drop, length}
+use lib.Seq.{drop-drop, getD-drop}
+use native.Mathlib.Omega.{arith}
+use native.Mathlib.Numerals.{add-one}
+use borrow.Author.Tests.{eq-eqb, ne-eqb, leb-true}
+use Rattle.rules.specs.declared.SetupRecord.{SetupRecord}
+use Rattle.rules.specs.Setup.{recordsOf, firstRecord, enterAll, enterRecord, refusedSetup, allowedLength, readSetup}
+use Rattle.state.specs.declared.Facility.{Facility}
+use Rattle.state.specs.State.{allOff, blank}
+use Rattle.setup.specs.Progress.{Progress, numberAfter, progressAfter}
+use Rattle.setup.specs.Laws.Progress.{Kept, none, number-same, kept-more, kept-few}
+use Rattle.rules.specs.Kinds.{recordNumber}
+use Rattle.rules.specs.Proofs.Records.{accepts}
+use Rattle.answers.specs.declared.SetupOutcome.the-variants.{Accepted}
+use Rattle.labels.specs.Decisions.{at}
+use Rattle.labels.specs.Laws.Decisions.{and-r}
+
+-- the records from k on, of n in the bytes s
+abbrev pub left : List ℕ → ℕ → ℕ → List SetupRecord
+left s n k = recordsOf (n - k) (drop (k * 8) s)
+
+left-more : (s : List ℕ) (n k : ℕ) → k < n → left s n k ≡ firstRecord (drop (k * 8) s) ∷ left s n (k + 1)
+unfolding recordsOf
+left-more s n k h =
+    let e : n - k ≡ suc (n - (k + 1)) = omega arith in
+    let d : k * 8 + 8 ≡ (k + 1) * 8 = omega arith in
+    ap (λ (m : ℕ). recordsOf m (drop (k * 8) s)) e
+    ∙ ap (λ (l : List ℕ). firstRecord (drop (k * 8) s) ∷ recordsOf (n - (k + 1)) l) (drop-drop 8 (k * 8) s ∙ ap (λ (m : ℕ). drop m s) d)
+
+-- the records before k, the last one first
+unfoldable pub pastOf : List ℕ → ℕ → List SetupRecord
+pastOf s zero = []
+pastOf s (suc k) = firstRecord (drop (k * 8) s) ∷ pastOf s k
+
+past-more : (s : List ℕ) (k : ℕ) → pastOf s (k + 1) ≡ firstRecord (drop (k * 8) s) ∷ pastOf s k
+unfolding pastOf
+past-more s k = rw (add-one k)
+
+pub past-length : (s : List ℕ) (k : ℕ) → length (pastOf s k) ≡ k
+unfolding pastOf
+past-length s zero = refl
+past-length s (suc k) = ap suc (past-length s k)
+
+-- What a reader at record k of n holds: the rest is read as the whole is, and what it keeps is kept of the records before k.
+pub record At (s : List ℕ) (n k : ℕ) (f : Facility) (p : Progress) : Type 0 where
+  pub whole : enterAll [] (blank allOff) (recordsOf n s) ≡ enterAll (pastOf s k) f (left s n k)
+  pub kept : Kept p (pastOf s k)
+
+pub begins : (s : List ℕ) (n : ℕ) (f : Facility) (p : Progress) → f ≡ blank allOff → p ≡ record { kind = 0; count = 0 } → At s n 0 f p
+unfolding pastOf
+begins s n f p a b =
+    let e : n ≡ n - 0 = omega arith in
+    record {
+      whole = (λ i. enterAll [] (sym a i) (recordsOf (e i) s));
+      kept = none (ap (λ (x : Progress). x .kind) b) (ap (λ (x : Progress). x .count) b);
+    }
+
+module _ (s : List ℕ) (n k : ℕ) (f : Facility) (p : Progress) (r : SetupRecord) (h : k < n) (A : At s n k f p) (this : r ≡ firstRecord (drop (k * 8) s)) where
+  left-this : left s n k ≡ r ∷ left s n (k + 1)
+  left-this = left-more s n k h ∙ ap (λ (x : SetupRecord). x ∷ left s n (k + 1)) (sym this)
+
+  past-this : pastOf s (k + 1) ≡ r ∷ pastOf s k
+  past-this = past-more s k ∙ ap (λ (x : SetupRecord). x ∷ pastOf s k) (sym this)
+
+  number-is : numberAfter p r ≡ recordNumber (pastOf s k) r
+  number-is = number-same p (pastOf s k) r (A .kept)
+
+  -- a record that is accepted is entered
+  pub goes-on : numberAfter p r ≡ 0 → At s n (k + 1) (enterRecord f r) (progressAfter p (r .kind))
+  unfolding enterAll
+  goes-on z =
+      let e = sym number-is ∙ z in
+      record {
+        whole = A .whole ∙ ap (enterAll (pastOf s k) f) left-this
+            ∙ rw (eq-eqb _ 0 e) (ap (λ (past : List SetupRecord). enterAll past (enterRecord f r) (left s n (k + 1))) (sym past-this));
+        kept = subst⁻¹ (Kept (progressAfter p (r .kind))) past-this (kept-more p (pastOf s k) r (A .kept) (accepts (pastOf s k) r e .fits));
+      }
+
+  -- one that is refused ends the reading
+  pub stops : numberAfter p r ≢ 0 → refusedSetup (numberAfter p r) k ≡ enterAll [] (blank allOff) (recordsOf n s)
+  unfolding enterAll
+  stops z =
+      sym (A .whole ∙ ap (enterAll (pastOf s k) f) left-this
+      ∙ rw (ne-eqb _ 0 (λ y. z (number-is ∙ y))) (λ i. refusedSetup (sym number-is i) (past-length s k i)))
+
+pub few : (s : List ℕ) (n k : ℕ) (f : Facility) (p : Progress) → At s n k f p → p .count ≤ k
+few s n k f p A = let h = kept-few p (pastOf s k) (A .kept) in let e = past-length s k in omega arith
+
+pub ends : (s : List ℕ) (n k : ℕ) (f : Facility) (p : Progress) → n ≤ k → At s n k f p
+    → record { outcome = Accepted; facility = f } ≡ enterAll [] (blank allOff) (recordsOf n s)
+unfolding enterAll recordsOf
+ends s n k f p h A =
+    let e : n - k ≡ 0 = omega arith in
+    sym (A .whole ∙ ap (λ (m : ℕ). enterAll (pastOf s k) f (recordsOf m (drop (k * 8) s))) e)
+
+-- a byte of the rest
+pub at-drop : (s : List ℕ) (n j : ℕ) → at (drop n s) j ≡ at s (n + j)
+at-drop s n j = getD-drop n s j 0
+
+pub at-drop-0 : (s : List ℕ) (n : ℕ) → at (drop n s) 0 ≡ at s n
+at-drop-0 s n = let e : n + 0 ≡ n = omega arith in getD-drop n s 0 0 ∙ ap (λ (k : ℕ). at s k) e
+
+-- an allowed length is one of at most 145 records, whose number fits two bytes
+pub few-records : (n : ℕ) → allowedLength n ≡ true → n / 8 % 65536 ≡ n / 8
+unfolding allowedLength
+few-records n h = let b : n ≤ 1160 = leb-true _ _ (and-r _ _ (and-r _ _ h)) in omega arith
+
+pub refused-length : (s : List ℕ) → allowedLength (length s) ≡ false → refusedSetup 14 0 ≡ readSetup s
+unfolding readSetup
+refused-length s h = rw h
+
+pub allowed-records : (s : List ℕ) → allowedLength (length s) ≡ true → enterAll [] (blank allOff) (recordsOf (length s / 8 % 65536) s) ≡ readSetup s
+unfolding readSetup
+allowed-records s h = rw (h, few-records (length s) h)

@@ -1,0 +1,43 @@
+-- Records stored into a lent buffer, and the records of users and live objects.
+use Prim.Native.Nat.{ℕ, _+_, _*_}
+use mathlib.Core.Bool.{Bool, cond}
+use mathlib.Core.List.{List, [], _∷_, map}
+use mathlib.Core.Path.{_≡_}
+use lib.Dec.{leb}
+use lib.ListN.{length}
+use lib.Seq.{sets}
+use Rattle.rules.specs.declared.SetupRecord.{SetupRecord}
+use Rattle.rules.specs.Setup.{bytesOf, userRecord, every, listed, objectRecord}
+use Rattle.state.specs.State.{Users, userIn, Objects, objectIn}
+use Rattle.state.specs.declared.Object.{Object}
+use Rattle.labels.specs.Decisions.{on}
+
+-- a record at a place of the buffer o, where it fits whole, and records one after the other
+abbrev pub putOne : List ℕ → ℕ → SetupRecord → List ℕ
+putOne o place r = cond (leb (place + 8) (length o)) (sets o place (bytesOf r)) o
+
+unfoldable pub putAll : List ℕ → ℕ → List SetupRecord → List ℕ
+putAll o place [] = o
+putAll o place (r ∷ rs) = putAll (putOne o place r) (place + 8) rs
+
+-- after records rs are stored from place p of the buffer o on: the buffer m, and the place q behind them
+pub record Stored (o : List ℕ) (p : ℕ) (rs : List SetupRecord) (m : List ℕ) (q : ℕ) : Type 0 where
+  pub buffer : m ≡ putAll o p rs
+  pub place : q ≡ p + length rs * 8
+
+-- a section is made of the items of the numbers below n that a test admits; the next number's
+abbrev pub sectionOf : {A : Type 0} → (A → SetupRecord) → ℕ → (ℕ → Bool) → (ℕ → A) → List SetupRecord
+sectionOf item n test value = map item (listed n test value)
+
+abbrev pub liveIn : Objects → ℕ → Bool
+liveIn x t = on ((objectIn x t) .live)
+
+-- the sections of users and of objects
+abbrev pub userRecords : ℕ → Users → List SetupRecord
+userRecords n x = sectionOf userRecord n every (userIn x)
+
+abbrev pub objectRecords : ℕ → Objects → List SetupRecord
+objectRecords n x = sectionOf objectRecord n (liveIn x) (objectIn x)
+
+abbrev pub liveRecord : Object → List SetupRecord
+liveRecord o = map objectRecord (cond (on (o .live)) (o ∷ []) [])

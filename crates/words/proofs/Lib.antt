@@ -1,0 +1,4 @@
+-- The laws that the proofs cite.
+pub mod Tables
+pub mod Patterns
+pub mod Stores

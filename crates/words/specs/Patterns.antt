@@ -1,0 +1,41 @@
+-- Texts with numbers in them. A pattern is a text with signs; each sign stands for the next of a list of numbers, said in the sign's way.
+use Prim.Native.Nat.{ℕ, _+_}
+use Prim.Native.String.{String}
+use mathlib.Core.Path.{_≡_, refl}
+use mathlib.Core.Bool.{Bool, cond}
+use mathlib.Core.List.{List, [], _∷_, _++_}
+use lib.Dec.{eqb, ltb}
+use Rattle.rules.specs.Lines.{decimal, decimalIn}
+use Rattle.rules.specs.Text.{ascii}
+use Rattle.labels.specs.Decisions.{at}
+use Rattle.words.specs.Words.{kindWord, answerWord, requestWord, numberWord, levelWord}
+
+infix 40 _is_
+abbrev _is_ : ℕ → String → Bool
+x is sign = eqb x (at (ascii sign) 0)
+
+-- a number at a sign: # in decimal, $ as a level, % as a kind, & as a request, ' as an answer, ! by what it says; any other byte is itself
+unfoldable pub said : ℕ → ℕ → List ℕ
+said x n =
+    cond (x is "#") (decimal n)
+    (cond (x is "$") (levelWord n)
+    (cond (x is "%") (kindWord n)
+    (cond (x is "&") (requestWord n)
+    (cond (x is "'") (answerWord n)
+    (cond (x is "!") (numberWord n) (x ∷ []))))))
+
+-- how many numbers a byte takes: one where it is a sign, that is ! (33) or one of # to ' (35 to 39)
+abbrev pub signs : ℕ → ℕ
+signs x = cond (x is "!") 1 (cond (ltb 34 x) (cond (ltb x 40) 1 0) 0)
+
+-- a pattern whose signs stand for the numbers from the i-th on
+unfoldable pub filledFrom : ℕ → List ℕ → List ℕ → List ℕ
+filledFrom i [] ns = []
+filledFrom i (x ∷ xs) ns = said x (at ns i) ++ filledFrom (i + signs x) xs ns
+
+abbrev pub filled : List ℕ → List ℕ → List ℕ
+filled xs ns = filledFrom 0 xs ns
+
+example : filled (ascii "object # (%, level $)") (17 ∷ 0 ∷ 255 ∷ []) ≡ ascii "object 17 (file, level unset)"
+unfolding decimalIn kindWord levelWord said filledFrom
+example = refl

@@ -1,0 +1,62 @@
+-- The words for kinds, answers, requests and levels, and what a number says.
+use Prim.Native.Nat.{ℕ, zero, suc}
+use mathlib.Core.Bool.{cond}
+use mathlib.Core.List.{List, [], _∷_}
+use lib.Dec.{eqb}
+use Rattle.rules.specs.Lines.{decimal}
+use Rattle.rules.specs.Text.{ascii}
+
+-- the word of a number; `none` past the last
+abbrev pub wordIn : List ℕ → List (List ℕ) → ℕ → List ℕ
+wordIn none [] n = none
+wordIn none (w ∷ ws) zero = w
+wordIn none (w ∷ ws) (suc n) = wordIn none ws n
+
+abbrev pub noKind : List ℕ
+noKind = ascii "no kind"
+
+abbrev pub kindWords : List (List ℕ)
+kindWords = ascii "file" ∷ ascii "directory" ∷ ascii "channel" ∷ ascii "control data" ∷ []
+
+unfoldable pub kindWord : ℕ → List ℕ
+kindWord n = wordIn noKind kindWords n
+
+abbrev pub noAnswer : List ℕ
+noAnswer = ascii "no answer"
+
+abbrev pub answerWords : List (List ℕ)
+answerWords = ascii "not cared" ∷ ascii "granted" ∷ ascii "not granted" ∷ ascii "undefined" ∷ []
+
+unfoldable pub answerWord : ℕ → List ℕ
+answerWord n = wordIn noAnswer answerWords n
+
+abbrev pub noRequest : List ℕ
+noRequest = ascii "no request"
+
+abbrev pub requestWords : List (List ℕ)
+requestWords =
+    ascii "alter" ∷ ascii "change-owner" ∷ ascii "clone" ∷ ascii "close" ∷ ascii "create" ∷ ascii "delete" ∷ ascii "delete-data" ∷ ascii "execute"
+    ∷ ascii "get-permissions-data" ∷ ascii "get-status-data" ∷ ascii "modify-access-data" ∷ ascii "modify-permissions-data" ∷ ascii "read"
+    ∷ ascii "read-open" ∷ ascii "read&write-open" ∷ ascii "search" ∷ ascii "send-signal" ∷ ascii "set-level" ∷ ascii "terminate" ∷ ascii "write"
+    ∷ ascii "write-open" ∷ ascii "login" ∷ []
+
+unfoldable pub requestWord : ℕ → List ℕ
+requestWord n = wordIn noRequest requestWords n
+
+-- what a number says: 0, the refusals of a call, 1 to 13, and those of a set-up, 14 to 17
+abbrev pub noNumber : List ℕ
+noNumber = ascii "no number"
+
+abbrev pub numberWords : List (List ℕ)
+numberWords =
+    ascii "accepted" ∷ ascii "no such request" ∷ ascii "no such process number" ∷ ascii "process does not run" ∷ ascii "process number is not free"
+    ∷ ascii "no such user" ∷ ascii "object is not live" ∷ ascii "object's kind lacks the request" ∷ ascii "no such kind"
+    ∷ ascii "object is not open in that mode" ∷ ascii "128 objects are entered" ∷ ascii "no such level" ∷ ascii "not granted" ∷ ascii "undefined"
+    ∷ ascii "length is not allowed" ∷ ascii "kind does not fit the place" ∷ ascii "too many users or objects" ∷ ascii "a byte is not allowed" ∷ []
+
+unfoldable pub numberWord : ℕ → List ℕ
+numberWord n = wordIn noNumber numberWords n
+
+-- an object's level
+unfoldable pub levelWord : ℕ → List ℕ
+levelWord n = cond (eqb n 255) (ascii "unset") (decimal n)
