@@ -7,7 +7,7 @@ use Prim.Native.Nat.{ℕ}
 use mathlib.Core.Bool.{Bool, cond}
 use lib.Dec.{eqb}
 use Rattle.labels.specs.Decisions.{_or_}
-use Rattle.answers.specs.Answers.{NotCared, Answer, combined3}
+use Rattle.answers.specs.Answers.{NotCared, Answer, combineAll}
 use Rattle.answers.specs.declared.Outcome.the-variants.{Accepted, Denied, Refused}
 use Rattle.answers.specs.declared.SetupOutcome.the-variants.{Accepted as SetupAccepted, Refused as SetupRefused}
 use Rattle.answers.specs.declared.WriteOutcome.the-variants.{Written, NoRoom}
@@ -21,7 +21,7 @@ notCared = record { mac = NotCared; fc = NotCared; sim = NotCared; combined = No
 
 -- the answers of the three modules, with their combination
 unfoldable pub answersFrom : Answer → Answer → Answer → Answers
-answersFrom m f s = record { mac = m; fc = f; sim = s; combined = combined3 m f s }
+answersFrom m f s = record { mac = m; fc = f; sim = s; combined = combineAll m f s }
 
 -- what a call with this number, these answers and this object comes to
 unfoldable pub outcomeOf : ℕ → Answers → ℕ → Outcome

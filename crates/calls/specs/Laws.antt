@@ -1,2 +1,2 @@
--- Laws, which other crates cite; nobody has to read their proofs.
+-- Laws that other crates cite, with those that these rest on; nobody has to read their proofs.
 pub mod Calls

@@ -44,7 +44,7 @@ pub fn view_of(f: Facility, c: Call) -> View
         &f.datatypes,
         t,
     );
-    let opens = state::at(&f.opens, i);
+    let opens = labels::at(&f.opens, i);
     View {
         switches: Switches {
             mac: f.mac,

@@ -1,4 +1,4 @@
--- Demand 3 of what `replay` returns: the bytes `setup` and `calls` are its arguments, and `replayed setup calls` is its result (the contract of
+-- Demand 3 of what `replay` returns: the bytes `setup` and `calls` are its arguments, and `replayed setup calls` is its result, by its contract.
 use Prim.Native.Nat.{ℕ, _<_}
 use mathlib.Core.List.{List}
 use mathlib.Core.Path.{_≡_}

@@ -22,10 +22,10 @@ pub fn call_at(calls: &[u8], i: usize) -> Call
         };
     }
     Call {
-        request: state::at(calls, i),
-        process: state::at(calls, i + 1),
-        target: state::at(calls, i + 2),
-        extra: state::at(calls, i + 3),
+        request: labels::at(calls, i),
+        process: labels::at(calls, i + 1),
+        target: labels::at(calls, i + 2),
+        extra: labels::at(calls, i + 3),
     }
 }
 

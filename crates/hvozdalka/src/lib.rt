@@ -269,7 +269,7 @@ pub extern "C" fn hv_object(f: Facility, t: u8) -> Object
 pub extern "C" fn hv_open_marks(f: Facility, p: u8, t: u8) -> u8
     ensures { λ r. ⌜ r ≡ openMarks f p t ⌝ }
 {
-    let marks = state::at(&f.opens, opens::mark_place(p, t) as usize);
+    let marks = labels::at(&f.opens, opens::mark_place(p, t) as usize);
     opens::add_modes(marks, 0)
 }
 

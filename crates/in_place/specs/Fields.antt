@@ -10,6 +10,8 @@ use Rattle.in_place.specs.Layout.{theKinds, theLevels, theCategories, th
 use Rattle.in_place.specs.Layout.{theAutomatics}
 use Rattle.state.specs.State.{Users, Objects, Processes}
 use Rattle.labels.specs.Decisions.{at}
+use Rattle.state.specs.declared.Facility.{Facility}
+use Rattle.in_place.specs.Stores.{Becomes}
 
 abbrev pub putField : (ℕ → List ℕ) → ℕ → List ℕ → ℕ → List ℕ
 putField g k l j = cond (eqb j k) l (g j)
@@ -41,3 +43,7 @@ processesPut g x =
 pub record Bytes (m : List ℕ) : Type 0 where
   pub long : length m ≡ wholeSize
   pub below : (i : ℕ) → at m i < 256
+
+-- What `Becomes` promises fixes every byte: bytes of the same facility with the same padding are the same bytes.
+abbrev pub BecomesUnique : Type 0
+BecomesUnique = (s m n : List ℕ) (f : Facility) → Bytes m → Bytes n → Becomes s m f → Becomes s n f → m ≡ n

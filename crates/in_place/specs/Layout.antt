@@ -84,9 +84,12 @@ thePadding = suc theOpens
 abbrev pub theRefusals : ℕ
 theRefusals = suc thePadding
 
--- the bytes of a facility
+-- the last of them, and so the bytes of a facility
+abbrev pub lastField : ℕ
+lastField = theRefusals
+
 abbrev pub wholeSize : ℕ
-wholeSize = offset (suc theRefusals)
+wholeSize = offset (suc lastField)
 
 -- n bytes from a place on
 abbrev pub part : List ℕ → ℕ → ℕ → List ℕ

@@ -2,4 +2,3 @@
 pub mod Layout
 pub mod Stores
 pub mod Fields
-pub mod Laws

@@ -6,6 +6,8 @@ use mathlib.Core.Path.{_≡_}
 use lib.Dec.{ltb, eqb}
 use lib.ListN.{set}
 use Rattle.in_place.specs.Layout.{fieldOf, thePadding, facilityAt, theCategories, theDatatypes, theKinds, theLevels, theLives}
+use Rattle.in_place.specs.Layout.{theRunnings, theOwners, theCurrents, theReadmarks, theWritemarks, theAutomatics}
+use Rattle.state.specs.declared.Process.{Process}
 use Rattle.state.specs.declared.Facility.{Facility}
 use Rattle.state.specs.declared.Object.{Object}
 
@@ -18,13 +20,22 @@ abbrev pub storeField : (ℕ → List ℕ) → ℕ → ℕ → ℕ → ℕ → L
 storeField g k i v j = cond (eqb j k) (set (g k) i v) (g j)
 
 -- bytes that become those of a facility; the padding stays
+abbrev pub paddingIn : (ℕ → List ℕ) → List ℕ
+paddingIn g = g thePadding
+
 abbrev pub padding : List ℕ → List ℕ
-padding s = fieldOf s thePadding
+padding s = paddingIn (fieldOf s)
 
 abbrev pub Becomes : List ℕ → List ℕ → Facility → Type 0
 Becomes s m f = (facilityAt m ≡ f) × (padding m ≡ padding s)
 
--- five stores of an object
+-- the stores of a process, and of an object
+abbrev pub storeProcess : (ℕ → List ℕ) → ℕ → Process → ℕ → List ℕ
+storeProcess g p r =
+    storeField (storeField (storeField (storeField (storeField (storeField g theRunnings p (r .running)) theOwners p (r .owner))
+    theCurrents p (r .current .level)) theReadmarks p (r .readmark .level)) theWritemarks p (r .writemark .level))
+    theAutomatics p (r .automatic)
+
 abbrev pub storeObject : (ℕ → List ℕ) → ℕ → Object → ℕ → List ℕ
 storeObject g i o =
     storeField (storeField (storeField (storeField (storeField g theLives i (o .live)) theKinds i (o .kind)) theLevels i (o .label .level)) theCategories i

@@ -1,5 +1,7 @@
-// Labels: what levels, marks and clearances are compared by.
+// Labels: what levels, marks and clearances are compared by; and the decisions that all other crates are made of.
+ghost use Prim.Native.Nat.{min};
 ghost use mathlib.Core.Path.{_≡_};
+ghost use Rattle.labels.specs.Decisions.{ask, at};
 ghost use Rattle.labels.specs.Labels.{label, leq, same, join, meet, given};
 
 // The byte of a level or a category that is unset.
@@ -59,4 +61,25 @@ impl Label {
     {
         self.level != UNSET
     }
+}
+
+// The element of an array, 0 outside it.
+pub fn at(array: &[u8], i: usize) -> u8
+    ensures { λ r. ⌜ r ≡ at (now (array .entry)) i ⌝ }
+{
+    if i < array.len() { array[i] } else { 0 }
+}
+
+// One of the ordered questions: yes goes on to the later ones, no gives the refusal number.
+pub fn ask(yes: bool, number: u8, later: u8) -> u8
+    ensures { λ r. ⌜ r ≡ ask yes number later ⌝ }
+{
+    if yes { later } else { number }
+}
+
+// The lesser of two.
+pub fn least(a: usize, b: usize) -> usize
+    ensures { λ r. ⌜ r ≡ min a b ⌝ }
+{
+    if a < b { a } else { b }
 }

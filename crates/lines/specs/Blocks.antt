@@ -1,5 +1,7 @@
 -- The lines of a block of calls.
-use Prim.Native.Nat.{ℕ}
+use Prim.Native.Nat.{ℕ, _+_, _%_, _/_}
+use mathlib.Core.Path.{_≡_}
+use lib.ListN.{length}
 use mathlib.Core.Bool.{Bool, cond}
 use mathlib.Core.List.{List, [], _++_}
 use lib.Dec.{ltb}
@@ -21,3 +23,10 @@ facilityAfter first f calls = cond (indexed first) (run f (callsOf calls)) f
 -- and `short` behind them, where bytes are left over
 abbrev pub blockText : ℕ → Facility → List ℕ → List ℕ
 blockText first f calls = linesOf first f calls ++ shortLine calls
+
+-- The lines of whole calls and those of the bytes behind them, one after the other, are the lines of all the bytes.
+abbrev pub WholeByBlocks : Type 0
+WholeByBlocks =
+    (i : ℕ) (f : Facility) (a b : List ℕ) → length a % 4 ≡ 0
+    → callLines i f (callsOf (a ++ b)) ++ shortLine (a ++ b)
+    ≡ (callLines i f (callsOf a) ++ shortLine a) ++ (callLines (i + length a / 4) (run f (callsOf a)) (callsOf b) ++ shortLine b)

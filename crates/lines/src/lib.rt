@@ -102,8 +102,8 @@ fn put_lines(start: Facility, first: u64, calls: &[u8], out: &mut [u8]) -> Print
         f = enforced.facility;
         let outcome = enforced.outcome;
         let p = c.process as usize;
-        let running = state::at(&f.runnings, p);
-        let level = state::at(&f.currents, p);
+        let running = labels::at(&f.runnings, p);
+        let level = labels::at(&f.currents, p);
         place = put_line(out, place, here, c, outcome, running, level);
     }
     Printed {

@@ -7,6 +7,7 @@ ghost use Rattle.matter.specs.LedgerSteps.{noMembers, objectGainsOf, onO
 ghost use Rattle.matter.specs.LedgerSteps.{startOf, stepOf};
 ghost use Rattle.opens.specs.Opens.{mostObjects};
 ghost use Rattle.rules.specs.Matter.{gives, takes};
+use labels::at;
 use requests::action_of;
 use requests::class_of;
 use requests::in_directory;
@@ -14,7 +15,6 @@ use rules::Action;
 use rules::Class;
 use state::Call;
 use state::OBJECTS;
-use state::at;
 
 // Object numbers in a word, and the words of a row for each object and each process.
 const PER_WORD: u8 = 64;

@@ -1,4 +1,6 @@
 -- "State": the opens, two bits in one byte for each process and object.
+pub use Rattle.opens.specs.declared.OpenChange.{OpenChange}
+pub use Rattle.opens.specs.declared.OpenChange.the-variants.{Keep, Add, Close, CloseAll}
 use Prim.Native.Nat.{ℕ, _+_, _*_, _%_, _/_, zero, suc}
 use mathlib.Core.Bool.{cond, Bool}
 use mathlib.Core.List.{List, [], _∷_}
@@ -34,6 +36,13 @@ writing v = eqb (v / 2 % 2) 1
 -- the marks v with those of m added
 unfoldable pub addModes : ℕ → ℕ → ℕ
 addModes v m = cond (reading v or reading m) 1 0 + cond (writing v or writing m) 2 0
+
+-- the marks v of a pair after a change of the opens: opens add their modes, close drops both, delete drops all
+abbrev pub marksAfter : OpenChange → ℕ → ℕ
+marksAfter Keep v = v
+marksAfter (Add m) v = addModes v m
+marksAfter Close v = 0
+marksAfter CloseAll v = 0
 
 -- the list of n elements by a rule
 unfoldable pub build : ℕ → (ℕ → ℕ) → List ℕ

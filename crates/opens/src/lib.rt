@@ -2,10 +2,8 @@
 ghost use mathlib.Core.Bool.{cond};
 ghost use mathlib.Core.Path.{_≡_};
 ghost use Prim.Native.Nat.{_≤_};
-ghost use lib.Dec.{ltb};
 ghost use lib.ListN.{length, set};
-ghost use Rattle.labels.specs.Decisions.{at};
-ghost use Rattle.opens.specs.Opens.{addModes, closeObject, closeProcess, copyProcess, markPlace, mostObjects, place, reading, writing};
+ghost use Rattle.opens.specs.Opens.{addModes, closeObject, closeProcess, copyProcess, markPlace, marksAfter, mostObjects, place, reading, writing};
 
 // How many processes and objects there are, and so pairs of them.
 pub const PROCESSES: u8 = 32;
@@ -50,6 +48,18 @@ pub fn add_modes(marks: u8, modes: u8) -> u8
     bit(reads, 1) + bit(writes, 2)
 }
 
+// The marks of a pair after a change of the opens.
+pub fn marks_after(change: OpenChange, marks: u8) -> u8
+    ensures { λ r. ⌜ r ≡ marksAfter change marks ⌝ }
+{
+    match change {
+        OpenChange::Keep => marks,
+        OpenChange::Add(modes) => add_modes(marks, modes),
+        OpenChange::Close => 0,
+        OpenChange::CloseAll => 0,
+    }
+}
+
 fn bit(set: bool, value: u8) -> u8
     ensures { λ r. ⌜ r ≡ cond set value 0 ⌝ }
     ensures { λ r. ⌜ r ≤ value ⌝ }
@@ -68,13 +78,6 @@ pub fn mark_place(p: u8, t: u8) -> u16
     (p as u16) * ROW + object
 }
 
-// The mark at a place, 0 past the end.
-fn mark_at(marks: &[u8], i: usize) -> u8
-    ensures { λ r. ⌜ r ≡ at (now (marks .entry)) i ⌝ }
-{
-    if i < marks.len() { marks[i] } else { 0 }
-}
-
 // The mark at a place becomes v; past the end nothing changes.
 fn put_mark(marks: &mut [u8], i: usize, v: u8)
     ensures { λ r. ⌜ now (marks .exit) ≡ set (now (marks .entry)) i v ⌝ }
@@ -84,12 +87,6 @@ fn put_mark(marks: &mut [u8], i: usize, v: u8)
     }
 }
 
-fn lesser(a: usize, b: usize) -> usize
-    ensures { λ r. ⌜ r ≡ cond (ltb a b) a b ⌝ }
-{
-    if a < b { a } else { b }
-}
-
 // All marks of process p go. The loop tests nothing but its end, so that it stores many marks at a time.
 pub fn close_process(marks: &mut [u8], p: u8)
     ensures { λ r. ⌜ now (marks .exit) ≡ closeProcess (now (marks .entry)) p ⌝ }
@@ -97,7 +94,7 @@ pub fn close_process(marks: &mut [u8], p: u8)
     let n = marks.len();
     let base = (p as usize) * (ROW as usize);
     let past = base + (ROW as usize);
-    let end = lesser(n, past);
+    let end = labels::least(n, past);
     let mut i = base;
     while i < end {
         marks[i] = 0;
@@ -125,7 +122,7 @@ fn copy_marks(marks: &mut [u8], p: u8, t: u8)
 {
     let mut k: u16 = 0;
     while k < ROW {
-        let v = mark_at(marks, ((p as u16) * ROW + k) as usize);
+        let v = labels::at(marks, ((p as u16) * ROW + k) as usize);
         put_mark(marks, ((t as u16) * ROW + k) as usize, v);
         k += 1;
     }

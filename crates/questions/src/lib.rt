@@ -22,13 +22,6 @@ fn only_if(put: bool, answer: bool) -> bool
     if put { answer } else { true }
 }
 
-// One of the ordered questions: yes goes on to the later number.
-fn or_number(yes: bool, number: u8, later: u8) -> u8
-    ensures { λ r. ⌜ r ≡ ask yes number later ⌝ }
-{
-    if yes { later } else { number }
-}
-
 // Question 2.
 fn in_range(c: Call) -> bool
     ensures { λ r. ⌜ r ≡ inRange (actionOf (c .request)) c ⌝ }
@@ -86,10 +79,10 @@ fn late_number(k: Action, v: View, c: Call, combined: Answer) -> u8
     ensures { λ r. ⌜ r ≡ lateNumber k v c combined ⌝ }
 {
     let level = only_if(requests::is_set_level(k), c.extra <= 15);
-    let n13 = or_number(!combined.is_undefined(), 13, 0);
-    let n12 = or_number(!combined.is_not_granted(), 12, n13);
-    let n11 = or_number(level, 11, n12);
-    or_number(room_for(k, v, c), 10, n11)
+    let n13 = labels::ask(!combined.is_undefined(), 13, 0);
+    let n12 = labels::ask(!combined.is_not_granted(), 12, n13);
+    let n11 = labels::ask(level, 11, n12);
+    labels::ask(room_for(k, v, c), 10, n11)
 }
 
 // Questions 8, 6, 7 and 9, and then the later ones.
@@ -99,25 +92,25 @@ fn object_number(k: Action, v: View, c: Call, later: u8) -> u8
     let class = modules::class_in(v, c);
     let target = requests::needs_object(k, c.extra);
     let open = only_if(requests::is_no_condition(class), open_for(v, c));
-    let n9 = or_number(only_if(target, open), 9, later);
-    let n7 = or_number(only_if(target, !requests::is_absent(class)), 7, n9);
-    let n6 = or_number(only_if(target, v.target.object.live == 1), 6, n7);
-    or_number(only_if(requests::is_create(k), c.extra <= 3), 8, n6)
+    let n9 = labels::ask(only_if(target, open), 9, later);
+    let n7 = labels::ask(only_if(target, !requests::is_absent(class)), 7, n9);
+    let n6 = labels::ask(only_if(target, v.target.object.live == 1), 6, n7);
+    labels::ask(only_if(requests::is_create(k), c.extra <= 3), 8, n6)
 }
 
 // Questions 1 to 5, and then the later ones.
 pub fn process_number(runs: Runs, c: Call, later: u8) -> u8
     ensures { λ r. ⌜ r ≡ processNumber (actionOf (c .request)) runs c later ⌝ }
 {
-    let n5 = or_number(
+    let n5 = labels::ask(
         only_if(requests::is_login(c.request), c.extra < runs.users),
         5,
         later,
     );
-    let n4 = or_number(is_free(runs, c.request), 4, n5);
-    let n3 = or_number(is_running(runs, c.request), 3, n4);
-    let n2 = or_number(in_range(c), 2, n3);
-    or_number(c.request <= requests::LAST, 1, n2)
+    let n4 = labels::ask(is_free(runs, c.request), 4, n5);
+    let n3 = labels::ask(is_running(runs, c.request), 3, n4);
+    let n2 = labels::ask(in_range(c), 2, n3);
+    labels::ask(c.request <= requests::LAST, 1, n2)
 }
 
 // The object number that an accepted create gives, 255 with every other call.

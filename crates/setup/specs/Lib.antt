@@ -1,4 +1,4 @@
--- Definitions beside document 01's: what the reader keeps, and records stored into a lent buffer.
+-- Definitions beside document 01's: what the reader keeps, records stored into a lent buffer, and the round trips there.
 pub mod Progress
 pub mod Writing
-pub mod Laws
+pub mod LentRoundTrips

@@ -29,14 +29,14 @@ fn record_at(s: &[u8], i: u16) -> SetupRecord
 {
     let at = (i as usize) * 8;
     SetupRecord {
-        kind: state::at(s, at),
-        one: state::at(s, at + 1),
-        two: state::at(s, at + 2),
-        three: state::at(s, at + 3),
-        four: state::at(s, at + 4),
-        five: state::at(s, at + 5),
-        six: state::at(s, at + 6),
-        seven: state::at(s, at + 7),
+        kind: labels::at(s, at),
+        one: labels::at(s, at + 1),
+        two: labels::at(s, at + 2),
+        three: labels::at(s, at + 3),
+        four: labels::at(s, at + 4),
+        five: labels::at(s, at + 5),
+        six: labels::at(s, at + 6),
+        seven: labels::at(s, at + 7),
     }
 }
 
@@ -196,13 +196,6 @@ fn allowed_by(d: Kind, r: SetupRecord) -> bool
                             & (byte_allowed(seven, r.seven) & also_allowed(also, r)))))))
 }
 
-// One of the ordered questions: yes goes on to the later number.
-fn or_number(yes: bool, number: u8, later: u8) -> u8
-    ensures { λ x. ⌜ x ≡ ask yes number later ⌝ }
-{
-    if yes { later } else { number }
-}
-
 // The questions 15 to 17 of one record.
 fn record_number(before: Progress, r: SetupRecord) -> u8
     ensures { λ x. ⌜ x ≡ numberAfter before r ⌝ }
@@ -211,7 +204,7 @@ fn record_number(before: Progress, r: SetupRecord) -> u8
     let fits = fits(before, d.place);
     let room = count_of(before, r.kind) < d.most;
     let allowed = allowed_by(d, r);
-    or_number(fits, 15, or_number(room, 16, or_number(allowed, 17, 0)))
+    labels::ask(fits, 15, labels::ask(room, 16, labels::ask(allowed, 17, 0)))
 }
 
 // What is kept with one record more.

@@ -17,7 +17,7 @@ use lib.Dec.{ltb}
 use lib.ListN.{set, replicate}
 use Rattle.labels.specs.Decisions.{at, on}
 use Rattle.labels.specs.Labels.{label, Label, bottom, top}
-use Rattle.opens.specs.Opens.{markPlace, mostObjects, copyProcess, addModes, closeObject, closeProcess, mostProcesses, mostOpens}
+use Rattle.opens.specs.Opens.{markPlace, mostObjects, copyProcess, marksAfter, closeObject, closeProcess, mostProcesses, mostOpens}
 
 -- users are 0..15, processes 0..31, object numbers 0..127
 abbrev pub mostUsers : ℕ
@@ -252,15 +252,19 @@ unfoldable pub noProcess : Process
 noProcess =
     record { running = 0; owner = 0; current = bottom; readmark = bottom; writemark = bottom; automatic = 0 }
 
--- What requests make of a facility: process t becomes a clone of p; p opens t in the modes m; p closes t; t is deleted; p terminates.
+-- What requests make of a facility: process t becomes a clone of p; the marks of p on t change; p opens t in the modes m; p closes t; t is
+-- deleted; p terminates.
 abbrev pub cloned : Facility → ℕ → ℕ → Facility
 cloned f p t = putOpens (putProcess f t (processOf f p)) (copyProcess (f .opens) p t)
 
+abbrev pub marked : Facility → ℕ → ℕ → OpenChange → Facility
+marked f p t change = putMarks f p t (marksAfter change (opensOf f p t))
+
 abbrev pub opened : Facility → ℕ → ℕ → ℕ → Facility
-opened f p t m = putMarks f p t (addModes (opensOf f p t) m)
+opened f p t m = marked f p t (Add m)
 
 abbrev pub closed : Facility → ℕ → ℕ → Facility
-closed f p t = putMarks f p t 0
+closed f p t = marked f p t Close
 
 abbrev pub deleted : Facility → ℕ → Facility
 deleted f t = dropObject (putOpens f (closeObject (f .opens) t)) t

@@ -1,9 +1,9 @@
 // The state: processes, users, objects and the facility that holds them, with its methods by value.
 ghost use mathlib.Core.Path.{_≡_};
-ghost use lib.ListN.{getD};
-ghost use Rattle.state.specs.State.{addObject, addUser, allOff, blank, changed, cloned, closed, counted, deleted, freshProcess, noProcess, objectIn};
-ghost use Rattle.state.specs.State.{objectOf, objectsFrom, openBy, opened, processIn, processOf, processesFrom, putOpens, putProcess, terminated};
+ghost use Rattle.state.specs.State.{addObject, addUser, allOff, blank, changed, cloned, closed, counted, deleted, freshProcess, marked};
+ghost use Rattle.state.specs.State.{noProcess, objectIn, objectOf, objectsFrom, openBy, opened, processIn, processOf, processesFrom, putOpens, putProcess, terminated};
 ghost use Rattle.state.specs.State.{userIn, userOf, usersFrom};
+ghost use Rattle.labels.specs.Decisions.{at};
 ghost use Rattle.labels.specs.Labels.{label};
 ghost use Rattle.opens.specs.Opens.{closeObject, closeProcess, copyProcess};
 use labels::Label;
@@ -166,18 +166,11 @@ impl Process {
     }
 }
 
-// The element of an array, 0 outside it.
-pub fn at(array: &[u8], i: usize) -> u8
-    ensures { λ r. ⌜ r ≡ getD (now (array .entry)) i 0 ⌝ }
-{
-    if i < array.len() { array[i] } else { 0 }
-}
-
 // The label of a level byte of an array.
 fn label_at(levels: &[u8], i: usize) -> Label
-    ensures { λ r. ⌜ r ≡ label (getD (now (levels .entry)) i 0) ⌝ }
+    ensures { λ r. ⌜ r ≡ label (at (now (levels .entry)) i) ⌝ }
 {
-    Label::of(at(levels, i))
+    Label::of(labels::at(levels, i))
 }
 
 // Process p out of the arrays of a facility, which are lent and not copied; so with object t and user u.
@@ -197,12 +190,12 @@ pub fn process_at<'a>(
     let readmark = label_at(readmarks, p);
     let writemark = label_at(writemarks, p);
     Process {
-        running: at(runnings, p),
-        owner: at(owners, p),
+        running: labels::at(runnings, p),
+        owner: labels::at(owners, p),
         current,
         readmark,
         writemark,
-        automatic: at(automatics, p),
+        automatic: labels::at(automatics, p),
     }
 }
 
@@ -219,11 +212,11 @@ pub fn object_at<'a>(
 {
     let label = label_at(levels, t);
     Object {
-        live: at(lives, t),
-        kind: at(kinds, t),
+        live: labels::at(lives, t),
+        kind: labels::at(kinds, t),
         label,
-        category: at(categories, t),
-        datatype: at(datatypes, t),
+        category: labels::at(categories, t),
+        datatype: labels::at(datatypes, t),
     }
 }
 
@@ -233,8 +226,8 @@ pub fn user_at<'a>(clearances: &'a [u8], roles: &'a [u8], trusts: &'a [u8], u: u
     let clearance = label_at(clearances, u);
     User {
         clearance,
-        role: at(roles, u),
-        trusted: at(trusts, u),
+        role: labels::at(roles, u),
+        trusted: labels::at(trusts, u),
     }
 }
 
@@ -300,11 +293,12 @@ impl Facility {
         }
     }
 
-    // Process p becomes r.
-    pub fn with_process(mut self, p: u8, r: Process) -> Facility
-        ensures { λ x. ⌜ x ≡ putProcess self p r ⌝ }
+    // Process p becomes r, and its marks on object t change: one body, since each method by value copies the facility again.
+    fn with_marked(mut self, p: u8, r: Process, t: u8, change: OpenChange) -> Facility
+        ensures { λ x. ⌜ x ≡ marked (putProcess self p r) p t change ⌝ }
     {
         let i = p as usize;
+        let k = opens::mark_place(p, t) as usize;
         if i < PROCESSES {
             self.runnings[i] = r.running;
             self.owners[i] = r.owner;
@@ -312,8 +306,33 @@ impl Facility {
             self.readmarks[i] = r.readmark.level;
             self.writemarks[i] = r.writemark.level;
             self.automatics[i] = r.automatic;
+            if k < PAIRS {
+                let marks = labels::at(&self.opens, k);
+                self.opens[k] = opens::marks_after(change, marks);
+            }
         }
         self
+    }
+
+    // Process p becomes r; no object has its marks changed.
+    pub fn with_process(self, p: u8, r: Process) -> Facility
+        ensures { λ x. ⌜ x ≡ putProcess self p r ⌝ }
+    {
+        self.with_marked(p, r, opens::OBJECTS, OpenChange::Keep)
+    }
+
+    // Process p becomes r and opens object t in the modes.
+    pub fn opened(self, p: u8, r: Process, t: u8, modes: u8) -> Facility
+        ensures { λ x. ⌜ x ≡ opened (putProcess self p r) p t modes ⌝ }
+    {
+        self.with_marked(p, r, t, OpenChange::Add(modes))
+    }
+
+    // Process p becomes r and closes object t.
+    pub fn closed(self, p: u8, r: Process, t: u8) -> Facility
+        ensures { λ x. ⌜ x ≡ closed (putProcess self p r) p t ⌝ }
+    {
+        self.with_marked(p, r, t, OpenChange::Close)
     }
 
     // The process of a number.
@@ -384,47 +403,6 @@ impl Facility {
         ensures { λ x. ⌜ x ≡ terminated self p ⌝ }
     {
         self.with_process(p, Process::none()).with_closed_row(p)
-    }
-
-    // Process p becomes r and opens object t in the modes: one body, since each method by value copies the facility again.
-    pub fn opened(mut self, p: u8, r: Process, t: u8, modes: u8) -> Facility
-        ensures { λ x. ⌜ x ≡ opened (putProcess self p r) p t modes ⌝ }
-    {
-        let i = p as usize;
-        let k = opens::mark_place(p, t) as usize;
-        if i < PROCESSES {
-            self.runnings[i] = r.running;
-            self.owners[i] = r.owner;
-            self.currents[i] = r.current.level;
-            self.readmarks[i] = r.readmark.level;
-            self.writemarks[i] = r.writemark.level;
-            self.automatics[i] = r.automatic;
-            if k < PAIRS {
-                let marks = at(&self.opens, k);
-                self.opens[k] = opens::add_modes(marks, modes);
-            }
-        }
-        self
-    }
-
-    // Process p becomes r and closes object t, in the same way.
-    pub fn closed(mut self, p: u8, r: Process, t: u8) -> Facility
-        ensures { λ x. ⌜ x ≡ closed (putProcess self p r) p t ⌝ }
-    {
-        let i = p as usize;
-        let k = opens::mark_place(p, t) as usize;
-        if i < PROCESSES {
-            self.runnings[i] = r.running;
-            self.owners[i] = r.owner;
-            self.currents[i] = r.current.level;
-            self.readmarks[i] = r.readmark.level;
-            self.writemarks[i] = r.writemark.level;
-            self.automatics[i] = r.automatic;
-            if k < PAIRS {
-                self.opens[k] = 0;
-            }
-        }
-        self
     }
 
     // Object t is deleted, with all opens on it.

@@ -4,12 +4,6 @@ ghost use mathlib.Core.Path.{_≡_};
 ghost use Rattle.rules.specs.Lines.{decimal, field};
 ghost use Rattle.text.specs.Stored.{Stored};
 
-fn least(a: usize, b: usize) -> usize
-    ensures { λ r. ⌜ r ≡ min a b ⌝ }
-{
-    if a < b { a } else { b }
-}
-
 // Stores a text from a place on, and answers the place behind it.
 pub fn put_text(out: &mut [u8], place: usize, text: &[u8]) -> usize
     ensures { λ r. ⌜ Stored (now (out .entry)) place (now (text .entry)) (now (out .exit)) r ⌝ }
@@ -18,7 +12,7 @@ pub fn put_text(out: &mut [u8], place: usize, text: &[u8]) -> usize
     if size <= place {
         return size;
     }
-    let n = least(size - place, text.len());
+    let n = labels::least(size - place, text.len());
     let mut j: usize = 0;
     while j < n {
         out[place + j] = text[j];

@@ -160,7 +160,7 @@ fn weighed(bytes: &[u8], n: usize) -> u64 {
     let mut sum: u64 = 0;
     while 0 < k {
         k -= 1;
-        tail = (tail + (state::at(bytes, k) as u64)) % 4294967296;
+        tail = (tail + (labels::at(bytes, k) as u64)) % 4294967296;
         sum = (sum + tail) % 4294967296;
     }
     sum

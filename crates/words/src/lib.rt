@@ -22,12 +22,6 @@ use state::Facility;
 // How many bytes a buffer for lines has. An array and not a slice: a function that hands it on is then checked in two thirds of the time.
 pub const BUFFER: usize = 65536;
 
-fn least(a: usize, b: usize) -> usize
-    ensures { λ r. ⌜ r ≡ min a b ⌝ }
-{
-    if a < b { a } else { b }
-}
-
 // How many bytes of a row are left without the blanks behind them.
 fn size(row: &[u8]) -> usize
     ensures { λ r. ⌜ r ≡ sizeIn (now (row .entry)) (length (now (row .entry))) ⌝ }
@@ -54,7 +48,7 @@ fn put_word(
     requires { ⌜ (last * width) + width ≤ length (now table) ⌝ }
     ensures { λ r. ⌜ Stored (now (out .entry)) place (wordAt (now (table .entry)) width (min n last)) (now (out .exit)) r ⌝ }
 {
-    let from = least(n as usize, last) * width;
+    let from = labels::least(n as usize, last) * width;
     let row = &table[from..from + width];
     let size = size(row);
     text::put_text(out, place, &row[..size])
@@ -193,7 +187,7 @@ fn put_filled(out: &mut [u8; BUFFER], place: usize, pattern: &[u8], numbers: &[u
     let mut j: usize = 0;
     while j < pattern.len() {
         let x = pattern[j];
-        let n = state::at(numbers, i);
+        let n = labels::at(numbers, i);
         p = put_said(out, p, x, n);
         i += signs(x);
         j += 1;

@@ -3,8 +3,8 @@ use Rattle.in_place.proofs.add_object.Statement.{statement}
 use Rattle.in_place.proofs.add_object.Tie as tie
 use mathlib.Core.Path.{refl, _∙_}
 use borrow.Author.Needs.{needs}
-use Rattle.in_place.specs.Laws.Changes.{added-is, full-is}
-use Rattle.in_place.specs.Laws.Stores.{padding-entered, padding-fields}
+use Rattle.in_place.proofs.Changes.{added-is, full-is}
+use Rattle.in_place.proofs.Stores.{padding-entered, padding-fields}
 
 returns : tie.Need-returns
 returns c =

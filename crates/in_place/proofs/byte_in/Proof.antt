@@ -1,5 +1,5 @@
 -- The result is `at (part s from n) i`.
-use Rattle.in_place.specs.Laws.Layout.{byte-in, byte-past}
+use Rattle.in_place.proofs.BytesOfParts.{byte-in, byte-past}
 use borrow.Author.Needs.{needs}
 use Rattle.in_place.proofs.byte_in.Statement.{statement}
 use Rattle.in_place.proofs.byte_in.Tie as tie

@@ -1,5 +1,5 @@
 -- The process is stored at its new number, then its opens.
-use Rattle.in_place.specs.Laws.Changes.{cloned-is}
+use Rattle.in_place.proofs.Changes.{cloned-is}
 use borrow.Author.Needs.{needs}
 use Rattle.in_place.proofs.clone.Statement.{statement}
 use Rattle.in_place.proofs.clone.Tie as tie

@@ -2,8 +2,8 @@
 use lib.ListN.{length}
 use mathlib.Core.Path.{_∙_, ap}
 use Rattle.in_place.specs.Layout.{facilityAt}
-use Rattle.in_place.specs.Laws.Changes.{opens-length}
-use Rattle.in_place.specs.Laws.Fields.{opens-lent}
+use Rattle.in_place.proofs.Changes.{opens-length}
+use Rattle.in_place.proofs.Fields.{opens-lent}
 use Rattle.opens.specs.Laws.Loops.{length-object-closed}
 use Rattle.state.specs.State.{putOpens}
 use borrow.Author.Needs.{needs}

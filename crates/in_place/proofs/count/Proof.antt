@@ -3,7 +3,7 @@ use Rattle.in_place.proofs.count.Statement.{statement}
 use Rattle.in_place.proofs.count.Tie as tie
 use mathlib.Core.Path.{refl}
 use borrow.Author.Needs.{needs}
-use Rattle.in_place.specs.Laws.Changes.{counted-is, stays-is}
+use Rattle.in_place.proofs.Changes.{counted-is, stays-is}
 
 returns : tie.Need-returns
 returns c =

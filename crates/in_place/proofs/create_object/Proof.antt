@@ -1,5 +1,5 @@
 -- The process is stored, then the object is entered.
-use Rattle.in_place.specs.Laws.Changes.{becomes-then}
+use Rattle.in_place.proofs.Changes.{becomes-then}
 use Rattle.state.specs.State.{addObject}
 use borrow.Author.Needs.{needs}
 use Rattle.in_place.proofs.create_object.Statement.{statement}

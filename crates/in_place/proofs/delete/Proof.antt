@@ -1,5 +1,5 @@
 -- The opens on the object go, then it is live no more.
-use Rattle.in_place.specs.Laws.Changes.{deleted-is}
+use Rattle.in_place.proofs.Changes.{deleted-is}
 use borrow.Author.Needs.{needs}
 use Rattle.in_place.proofs.delete.Statement.{statement}
 use Rattle.in_place.proofs.delete.Tie as tie

@@ -1,6 +1,6 @@
 -- Each change is made by its function.
 use mathlib.Core.Path.{refl}
-use Rattle.in_place.specs.Laws.Changes.{becomes-by}
+use Rattle.in_place.proofs.Changes.{becomes-by}
 use borrow.Author.Needs.{needs}
 use Rattle.in_place.proofs.make.Statement.{statement}
 use Rattle.in_place.proofs.make.Tie as tie

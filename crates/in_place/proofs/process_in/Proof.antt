@@ -8,17 +8,19 @@ use Rattle.state.specs.State.{processIn}
 returns : tie.Need-returns
 unfolding facilityAt processIn
 returns c =
-    let c3 = c .before .before .before in
-    let c4 = c3 .before in
-    let c5 = c4 .before in
+    let c6 = c in
+    let c5 = c6 .before in
+    let c4 = c5 .before in
+    let c3 = c4 .before in
+    let c2 = c3 .before in
+    let c1 = c2 .before in
     λ j. record {
-      running = c5 .byte-in .ensures j;
-      owner = c4 .byte-in2 .ensures j;
+      running = c1 .byte-in .ensures j;
+      owner = c2 .byte-in2 .ensures j;
       current = c3 .label-in .ensures j;
-      readmark =
-          c .before .before .label-in2 .ensures j;
-      writemark = c .before .label-in3 .ensures j;
-      automatic = c .byte-in3 .ensures j;
+      readmark = c4 .label-in2 .ensures j;
+      writemark = c5 .label-in3 .ensures j;
+      automatic = c6 .byte-in3 .ensures j;
     }
 
 pub process-in-spec : {M : Type 1} → statement M

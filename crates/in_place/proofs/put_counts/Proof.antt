@@ -3,7 +3,7 @@ use mathlib.Core.Path.{refl}
 use native.Mathlib.Omega.{arith}
 use borrow.Author.Needs.{needs}
 use Rattle.in_place.specs.Layout.{theMac, theFc, theSim, theUsers, theEntered}
-use Rattle.in_place.specs.Laws.Fields.{fields-of, byte-stored}
+use Rattle.in_place.proofs.Fields.{fields-of, byte-stored}
 use Rattle.in_place.proofs.put_counts.Statement.{statement}
 use Rattle.in_place.proofs.put_counts.Tie as tie
 

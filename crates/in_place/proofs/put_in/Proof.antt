@@ -2,7 +2,7 @@
 use Rattle.in_place.proofs.put_in.Statement.{statement}
 use Rattle.in_place.proofs.put_in.Tie as tie
 use borrow.Author.Needs.{needs}
-use Rattle.in_place.specs.Laws.Stores.{store-inside, store-past, store-short}
+use Rattle.in_place.proofs.Stores.{store-inside, store-past, store-short}
 
 returns : tie.Need-returns
 returns c = let a = c .before .args in store-past (a .s .now) (a .from) (a .n) (a .i) (a .v) (c .if1 .taken)

@@ -3,9 +3,9 @@ use Prim.Native.Nat.{ℕ}
 use mathlib.Core.Path.{_∙_, ap}
 use lib.ListN.{set}
 use borrow.Author.Needs.{needs}
-use Rattle.in_place.specs.Laws.Changes.{opens-step, opens-first}
+use Rattle.in_place.proofs.Changes.{opens-step, opens-first}
 use Rattle.in_place.specs.Layout.{facilityAt}
-use Rattle.in_place.specs.Laws.Stores.{padding-marks}
+use Rattle.in_place.proofs.Stores.{padding-marks}
 use Rattle.state.specs.State.{putOpens}
 use Rattle.in_place.proofs.put_marks.Statement.{statement}
 use Rattle.in_place.proofs.put_marks.Tie as tie

@@ -1,19 +1,10 @@
--- Five bytes of an object are stored, one after the other.
-use mathlib.Core.Path.{refl, _∙_}
+-- The bytes of an object are stored, one after the other.
+use mathlib.Core.Path.{refl}
 use borrow.Author.Needs.{needs}
 use Rattle.in_place.specs.Layout.{fieldOf, theLives, theKinds, theLevels, theCategories, theDatatypes}
-use Rattle.in_place.specs.Laws.Stores.{stored}
+use Rattle.in_place.proofs.Stores.{stored}
 use Rattle.in_place.proofs.put_object.Statement.{statement}
 use Rattle.in_place.proofs.put_object.Tie as tie
-
-same-length : tie.Need-same-length
-same-length c =
-    let c5 = c .before .before in
-    let c4 = c5 .before .before .before .before in
-    let c3 = c4 .before .before .before .before in
-    let c2 = c3 .before .before .before .before in
-    let c1 = c2 .before .before .before .before in
-    c5 .put-in5 .kept .0 ∙ c4 .put-in4 .kept .0 ∙ c3 .put-in3 .kept .0 ∙ c2 .put-in2 .kept .0 ∙ c1 .put-in .kept .0
 
 returns : tie.Need-returns
 returns c =
@@ -24,13 +15,14 @@ returns c =
     let c1 = c2 .before .before .before .before in
     let a = c1 .before .before .before .args in
     let o = a .o in
-    let f1 = stored (a .s .now) _ (fieldOf (a .s .now)) theLives (a .i) (o .live) refl (c1 .put-in .ensures) in
-    let f2 = stored _ _ _ theKinds (a .i) (o .kind) f1 (c2 .put-in2 .ensures) in
-    let f3 = stored _ _ _ theLevels (a .i) (o .label .level) f2 (c3 .put-in3 .ensures) in
-    let f4 = stored _ _ _ theCategories (a .i) (o .category) f3 (c4 .put-in4 .ensures) in
-    stored _ _ _ theDatatypes (a .i) (o .datatype) f4 (c5 .put-in5 .ensures)
+    let f = stored (a .s .now) _ (fieldOf (a .s .now)) theLives (a .i) (o .live) refl (c1 .put-in .ensures) in
+    let f = stored _ _ _ theKinds (a .i) (o .kind) f (c2 .put-in2 .ensures) in
+    let f = stored _ _ _ theLevels (a .i) (o .label .level) f (c3 .put-in3 .ensures) in
+    let f = stored _ _ _ theCategories (a .i) (o .category) f (c4 .put-in4 .ensures) in
+    stored _ _ _ theDatatypes (a .i) (o .datatype) f (c5 .put-in5 .ensures)
 
 pub put-object-spec : {M : Type 1} → statement M
 put-object-spec =
     tie.close
-    (tie.spec (λ c κs. search needs) (λ c κs. search needs) (λ c κs. search needs) (λ c κs. search needs) (λ c κs. search needs) same-length returns)
+    (tie.spec (λ c κs. search needs) (λ c κs. search needs) (λ c κs. search needs) (λ c κs. search needs) (λ c κs. search needs)
+    (λ c. search needs) returns)

@@ -1,8 +1,8 @@
--- Six whole fields, one after the other.
+-- Whole fields, one after the other.
 use native.Mathlib.Omega.{arith}
 use borrow.Author.Needs.{needs}
 use Rattle.in_place.specs.Layout.{theRunnings, theOwners, theCurrents, theReadmarks, theWritemarks, theAutomatics}
-use Rattle.in_place.specs.Laws.Fields.{fields-of, field-stored}
+use Rattle.in_place.proofs.Fields.{fields-of, field-stored}
 use Rattle.in_place.proofs.put_processes.Statement.{statement}
 use Rattle.in_place.proofs.put_processes.Tie as tie
 
@@ -16,13 +16,13 @@ returns c =
     let c1 = c2 .before .before .before .before in
     let x = c1 .before .before .before .before .before .before .before .before .before in
     let a = x .args in
-    let f1 = field-stored (a .s .now) _ (a .runnings .now) _ theRunnings (fields-of (a .s .now) (x .pre .0)) (omega arith) (x .pre .1 .runnings)
+    let f = field-stored (a .s .now) _ (a .runnings .now) _ theRunnings (fields-of (a .s .now) (x .pre .0)) (omega arith) (x .pre .1 .runnings)
     (c1 .put-array .ensures) in
-    let f2 = field-stored _ _ (a .owners .now) _ theOwners f1 (omega arith) (x .pre .1 .owners) (c2 .put-array2 .ensures) in
-    let f3 = field-stored _ _ (a .currents .now) _ theCurrents f2 (omega arith) (x .pre .1 .currents) (c3 .put-array3 .ensures) in
-    let f4 = field-stored _ _ (a .readmarks .now) _ theReadmarks f3 (omega arith) (x .pre .1 .readmarks) (c4 .put-array4 .ensures) in
-    let f5 = field-stored _ _ (a .writemarks .now) _ theWritemarks f4 (omega arith) (x .pre .1 .writemarks) (c5 .put-array5 .ensures) in
-    field-stored _ _ (a .automatics .now) _ theAutomatics f5 (omega arith) (x .pre .1 .automatics) (c6 .put-array6 .ensures)
+    let f = field-stored _ _ (a .owners .now) _ theOwners f (omega arith) (x .pre .1 .owners) (c2 .put-array2 .ensures) in
+    let f = field-stored _ _ (a .currents .now) _ theCurrents f (omega arith) (x .pre .1 .currents) (c3 .put-array3 .ensures) in
+    let f = field-stored _ _ (a .readmarks .now) _ theReadmarks f (omega arith) (x .pre .1 .readmarks) (c4 .put-array4 .ensures) in
+    let f = field-stored _ _ (a .writemarks .now) _ theWritemarks f (omega arith) (x .pre .1 .writemarks) (c5 .put-array5 .ensures) in
+    field-stored _ _ (a .automatics .now) _ theAutomatics f (omega arith) (x .pre .1 .automatics) (c6 .put-array6 .ensures)
 
 pub put-processes-spec : {M : Type 1} → statement M
 put-processes-spec =

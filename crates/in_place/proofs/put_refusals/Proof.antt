@@ -5,9 +5,9 @@ use Prim.Native.Nat.{_/_, _%_}
 use mathlib.Core.Path.{refl, _∙_}
 use native.Mathlib.Omega.{arith}
 use borrow.Author.Needs.{needs}
-use Rattle.in_place.specs.Laws.Changes.{refusals-put}
+use Rattle.in_place.proofs.Changes.{refusals-put}
 use Rattle.in_place.specs.Layout.{fieldOf, theRefusals}
-use Rattle.in_place.specs.Laws.Stores.{stored, padding-fields}
+use Rattle.in_place.proofs.Stores.{stored, padding-fields}
 
 same-length : tie.Need-same-length
 same-length c =

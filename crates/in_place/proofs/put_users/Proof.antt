@@ -2,7 +2,7 @@
 use native.Mathlib.Omega.{arith}
 use borrow.Author.Needs.{needs}
 use Rattle.in_place.specs.Layout.{theClearances, theRoles, theTrusts}
-use Rattle.in_place.specs.Laws.Fields.{fields-of, field-stored}
+use Rattle.in_place.proofs.Fields.{fields-of, field-stored}
 use Rattle.in_place.proofs.put_users.Statement.{statement}
 use Rattle.in_place.proofs.put_users.Tie as tie
 

@@ -3,7 +3,7 @@ use Prim.Native.Nat.{ℕ}
 use mathlib.Core.Path.{_≡_, sym, _∙_}
 use lib.ListN.{length}
 use borrow.Author.Needs.{needs, length-unmapped}
-use Rattle.in_place.specs.Laws.Fields.{stored-whole}
+use Rattle.in_place.proofs.Fields.{stored-whole}
 use Rattle.opens.specs.Opens.{mostOpens}
 use Rattle.in_place.proofs.store.Statement.{statement}
 use Rattle.in_place.proofs.store.Tie as tie
@@ -13,9 +13,10 @@ same-length c =
     let c6 = c .before .before in
     let c5 = c6 .before .before .before .before in
     let c4 = c5 .before .before .before .before .before .before .before in
-    let x = c4 .before .before .before .before .before .before .before .before .before .before .before .before .before .before .before .before .before
-    .before .before .before .before .before .before .before .before .before .before .before .before .before .before .before .before .before .before .before
-    .before .before .before .before .before .before .before .before .before .before in
+    let c3 = c4 .before .before .before .before .before .before .before .before .before .before .before .before .before .before .before .before .before in
+    let c2 = c3 .before .before .before .before .before .before .before .before .before .before .before .before .before .before .before in
+    let c1 = c2 .before .before .before .before .before .before .before .before .before .before .before in
+    let x = c1 .before .before .before in
     c6 .put-refusals .kept .0 ∙ c5 .put-array .kept .0 ∙ c4 .put-processes .ensures .long ∙ sym (x .pre)
 
 returns : tie.Need-returns

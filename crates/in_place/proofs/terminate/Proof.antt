@@ -1,5 +1,5 @@
 -- No process is stored at the number, then its opens go.
-use Rattle.in_place.specs.Laws.Changes.{terminated-is}
+use Rattle.in_place.proofs.Changes.{terminated-is}
 use borrow.Author.Needs.{needs}
 use Rattle.in_place.proofs.terminate.Statement.{statement}
 use Rattle.in_place.proofs.terminate.Tie as tie

@@ -24,10 +24,6 @@ pub same-eq : (a b : Label) → same a b ≡ true → a ≡ b
 unfolding same
 same-eq a b h = λ i. record { level = eqb-true (a .level) (b .level) h i }
 
-pub eq-same : (a b : Label) → a ≡ b → same a b ≡ true
-unfolding same
-eq-same a b h = eq-eqb (a .level) (b .level) (ap (λ (x : Label). x .level) h)
-
 pub ⊑-antisym : (a b : Label) → a ⊑ b → b ⊑ a → a ≡ b
 unfolding leq
 ⊑-antisym a b h k =

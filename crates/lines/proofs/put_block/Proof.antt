@@ -6,7 +6,7 @@ use lib.ListN.{length-append}
 use native.Mathlib.Omega.{arith}
 use borrow.Author.Needs.{needs}
 use Rattle.lines.specs.Blocks.{linesOf}
-use Rattle.lines.specs.Laws.Blocks.{short-most}
+use Rattle.lines.proofs.Blocks.{short-most}
 use Rattle.rules.specs.Lines.{shortLine}
 use Rattle.text.specs.Laws.Stored.{then, counts}
 

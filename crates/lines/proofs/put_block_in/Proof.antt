@@ -5,7 +5,7 @@ use native.Mathlib.Omega.{arith}
 use borrow.Author.Needs.{needs}
 use Rattle.in_place.specs.Layout.{facilityAt}
 use Rattle.lines.specs.Blocks.{linesOf}
-use Rattle.lines.specs.Laws.Blocks.{short-most}
+use Rattle.lines.proofs.Blocks.{short-most}
 use Rattle.rules.specs.Lines.{shortLine}
 use Rattle.text.specs.Laws.Stored.{then, counts}
 use Rattle.lines.proofs.put_block_in.Statement.{statement}

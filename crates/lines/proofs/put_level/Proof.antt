@@ -3,7 +3,7 @@ use Rattle.lines.proofs.put_level.Statement.{statement}
 use Rattle.lines.proofs.put_level.Tie as tie
 use borrow.Author.Needs.{needs}
 use Rattle.lines.specs.Texts.{levelPart}
-use Rattle.lines.specs.Laws.Texts.{level-runs, level-none}
+use Rattle.lines.proofs.Texts.{level-runs, level-none}
 use Rattle.text.specs.Laws.Stored.{as-text}
 
 returns : tie.Need-returns

@@ -2,7 +2,7 @@
 use mathlib.Core.List.{[], _∷_, _++_}
 use borrow.Author.Needs.{needs}
 use Rattle.lines.specs.Texts.{outcomeText, levelPart, lineText}
-use Rattle.lines.specs.Laws.Texts.{line-short}
+use Rattle.lines.proofs.Texts.{line-short}
 use Rattle.text.specs.Laws.Stored.{then}
 use Rattle.lines.proofs.put_line.Statement.{statement}
 use Rattle.lines.proofs.put_line.Tie as tie

@@ -7,7 +7,7 @@ use lib.ListN.{length}
 use Rattle.rules.specs.declared.Enforced.{Enforced}
 use native.Mathlib.Omega.{arith}
 use borrow.Author.Needs.{needs}
-use Rattle.lines.specs.Laws.Blocks.{Left, left-begins, left-goes-on, block-none, block-done}
+use Rattle.lines.proofs.Blocks.{Left, left-begins, left-goes-on, block-none, block-done}
 
 abbrev Inv-loop : tie.InvT-loop
 Inv-loop first calls out₀ n f₀ place₀ i₀ index₀ out f place i index = (i ≤ length calls) × (index ≤ first + i) × Left out₀ first f₀ calls out place index f i

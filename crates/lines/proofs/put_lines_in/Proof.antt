@@ -6,7 +6,7 @@ use native.Mathlib.Omega.{arith}
 use borrow.Author.Needs.{needs}
 use Rattle.in_place.specs.Layout.{facilityAt}
 use Rattle.in_place.specs.Stores.{padding}
-use Rattle.lines.specs.Laws.Blocks.{Left, left-begins, left-goes-on, process-bytes, block-none, block-done}
+use Rattle.lines.proofs.Blocks.{Left, left-begins, left-goes-on, process-bytes, block-none, block-done}
 use Rattle.lines.proofs.put_lines_in.Statement.{statement}
 use Rattle.lines.proofs.put_lines_in.Tie as tie
 

@@ -2,7 +2,7 @@
 use Rattle.lines.proofs.put_short.Statement.{statement}
 use Rattle.lines.proofs.put_short.Tie as tie
 use borrow.Author.Needs.{needs}
-use Rattle.lines.specs.Laws.Blocks.{not-short, is-short}
+use Rattle.lines.proofs.Blocks.{not-short, is-short}
 use Rattle.rules.specs.Lines.{shortLine}
 use Rattle.text.specs.Laws.Stored.{as-text}
 

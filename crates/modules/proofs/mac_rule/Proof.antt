@@ -1,7 +1,7 @@
 -- MAC on the object where the request needs one, else without.
 use mathlib.Core.Path.{_∙_, sym}
 use borrow.Author.Needs.{needs}
-use Rattle.modules.specs.Laws.Mac.{mac-on-target}
+use Rattle.modules.proofs.Mac.{mac-on-target}
 use Rattle.modules.proofs.mac_rule.Statement.{statement}
 use Rattle.modules.proofs.mac_rule.Tie as tie
 

@@ -1,6 +1,6 @@
 -- Each arm by what the request acts on; a create that needs no object is granted, and a request on an object needs one.
 use borrow.Author.Needs.{needs}
-use Rattle.modules.specs.Laws.Mac.{create-alone, object-needed}
+use Rattle.modules.proofs.Mac.{create-alone, object-needed}
 use Rattle.rules.specs.Modules.{macRule}
 use Rattle.modules.proofs.mac_without_object.Statement.{statement}
 use Rattle.modules.proofs.mac_without_object.Tie as tie

@@ -1,13 +1,11 @@
 -- A store for each mark until the row or the list ends: together the opens without those of process p.
-use Prim.Native.Nat.{ℕ, _+_, _-_, _*_, _≤_, _<_}
-use mathlib.Core.Bool.{cond}
-use lib.Dec.{ltb}
+use Prim.Native.Nat.{ℕ, _+_, _-_, _*_, _≤_, _<_, min}
 use mathlib.Core.Path.{_≡_, _∙_, ap, sym}
 use lib.ListN.{length, set, length-set}
 use native.Mathlib.Omega.{arith}
 use borrow.Author.Needs.{needs}
 use Rattle.opens.specs.Opens.{mostObjects, place}
-use Rattle.opens.specs.Laws.Loops.{puts, puts-none, puts-more, row-cleared, lesser-first, lesser-second, lesser-above}
+use Rattle.opens.specs.Laws.Loops.{puts, puts-none, puts-more, row-cleared}
 use Rattle.opens.proofs.close_process.Statement.{statement}
 use Rattle.opens.proofs.close_process.Tie as tie
 
@@ -19,11 +17,8 @@ abbrev μ-loop : tie.MeasureT-loop
 μ-loop marks₀ p n base past end i₀ marks i = end - i
 
 -- the loop's end is at most the list's and at most the row's
-bounded : (i n e p : ℕ) → e ≡ cond (ltb n (place p mostObjects)) n (place p mostObjects) → i < e → (i < n) × (i < place p mostObjects)
-bounded i n e p h b =
-    let f = lesser-first n (place p mostObjects) in
-    let g = lesser-second n (place p mostObjects) in
-    (omega (arith, h, b, f), omega (arith, h, b, g))
+bounded : (i n e p : ℕ) → e ≡ min n (place p mostObjects) → i < e → (i < n) × (i < place p mostObjects)
+bounded i n e p h b = (omega arith, omega arith)
 
 loop-holds : tie.Need-loop-holds Inv-loop μ-loop
 loop-holds c =
@@ -35,7 +30,7 @@ slice-write-marks : tie.Need-slice-write-marks Inv-loop μ-loop
 slice-write-marks c =
     let l = c .before .loop in
     let x = c .before .before in
-    let b = bounded (l .i) (length (x .before .before .args .marks .now)) _ (x .before .before .args .p) (x .lesser .ensures) (c .loop-test .taken) in
+    let b = bounded (l .i) (length (x .before .before .args .marks .now)) _ (x .before .before .args .p) (x .least .ensures) (c .loop-test .taken) in
     let h : l .i < length (l .marks) = omega (arith, l .inv .3, b .0) in
     search (needs, h)
 
@@ -44,7 +39,7 @@ loop-again c =
     let l = c .before .loop in
     let x = c .before .before in
     let p = x .before .before .args .p in
-    let b = bounded (l .i) (length (x .before .before .args .marks .now)) _ p (x .lesser .ensures) (c .loop-test .taken) in
+    let b = bounded (l .i) (length (x .before .before .args .marks .now)) _ p (x .least .ensures) (c .loop-test .taken) in
     let w : l .i ≡ place p (l .i - place p 0) = omega (arith, l .inv .0) in
     let e : l .i - place p 0 + 1 ≡ l .i + 1 - place p 0 = omega (arith, l .inv .0) in (
       omega (arith, l .inv .0),
@@ -61,9 +56,7 @@ returns c =
     let m = x .before .before .args .marks .now in
     l .inv .2
     ∙ row-cleared m p (l .i - place p 0)
-    (λ k h b.
-    let d = lesser-above (length m) (place p mostObjects) (place p k) b (omega arith) in
-    omega (arith, d, x .lesser .ensures, c .loop-test .left))
+    (λ k h b. omega (arith, x .least .ensures, c .loop-test .left))
     (omega (arith, l .inv .1))
 
 pub close-process-spec : {M : Type 1} → statement M

@@ -22,7 +22,7 @@ loop-again c =
     let l = x .before .before .before .loop in
     let a = x .before .before .before .before .before .args in (
       search needs,
-      c .before .before .put-mark .ensures ∙ ap (set (l .marks) (place (a .t) (l .k))) (x .mark-at .ensures)
+      c .before .before .put-mark .ensures ∙ ap (set (l .marks) (place (a .t) (l .k))) (x .at .ensures)
           ∙ copy-more _ (l .marks) (a .p) (a .t) (l .k) (search needs) (l .inv .1),
     )
 

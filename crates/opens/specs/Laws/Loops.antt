@@ -112,16 +112,6 @@ copy-more l m p t k h e =
     ∙ at-puts-other l (λ j. place t j) (λ j. at l (place p j)) k (place p k) (λ j b q. absurd (omega arith)))
     ∙ puts-more l m (λ j. place t j) (λ j. at l (place p j)) k e
 
--- the lesser of two is at most each, and is one of them
-pub lesser-first : (a b : ℕ) → cond (ltb a b) a b ≤ a
-lesser-first a b = by-test (ltb a b) (λ t. rw t (omega arith)) (λ t. let h = ltb-false a b t in rw t (omega arith))
-
-pub lesser-second : (a b : ℕ) → cond (ltb a b) a b ≤ b
-lesser-second a b = by-test (ltb a b) (λ t. let h = ltb-true a b t in rw t (omega arith)) (λ t. rw t (omega arith))
-
-pub lesser-above : (a b i : ℕ) → i < a → i < b → i < cond (ltb a b) a b
-lesser-above a b i h k = by-test (ltb a b) (λ t. rw t h) (λ t. rw t k)
-
 -- Numbers that are none: nothing is dropped, and nobody gets a copy.
 pub no-process-closed : (l : List ℕ) (p : ℕ) → length l ≡ mostOpens → mostProcesses ≤ p → l ≡ closeProcess l p
 unfolding closeProcess

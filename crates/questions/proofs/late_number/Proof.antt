@@ -14,12 +14,12 @@ returns c =
     let c7 = c6 .before in
     let c9 = c7 .before .before in
     rw (
-      c .or-number4 .ensures,
+      c .ask4 .ensures,
       c .before .room-for .ensures,
-      c .before .before .or-number3 .ensures,
-      c3 .or-number2 .ensures,
+      c .before .before .ask3 .ensures,
+      c3 .ask2 .ensures,
       c4 .is-not-granted .ensures,
-      c5 .or-number .ensures,
+      c5 .ask .ensures,
       c6 .is-undefined .ensures,
       c7 .only-if .ensures,
       c9 .is-set-level .ensures,

@@ -21,15 +21,15 @@ returns c =
     let c15 = c14 .before in
     let c16 = c15 .before in
     rw (
-      c .or-number4 .ensures,
+      c .ask4 .ensures,
       c .before .only-if5 .ensures,
       c3 .is-create .ensures,
-      c4 .or-number3 .ensures,
+      c4 .ask3 .ensures,
       c5 .only-if4 .ensures,
-      c7 .or-number2 .ensures,
+      c7 .ask2 .ensures,
       c8 .only-if3 .ensures,
       c9 .is-absent .ensures,
-      c10 .or-number .ensures,
+      c10 .ask .ensures,
       c11 .only-if2 .ensures,
       c12 .only-if .ensures,
       c13 .open-for .ensures,

@@ -16,14 +16,14 @@ returns c =
     let c9 = c8 .before in
     let c12 = c9 .before .before .before in
     rw (
-      c .or-number5 .ensures,
-      c .before .before .or-number4 .ensures,
+      c .ask5 .ensures,
+      c .before .before .ask4 .ensures,
       c3 .in-range .ensures,
-      c4 .or-number3 .ensures,
+      c4 .ask3 .ensures,
       c5 .is-running .ensures,
-      c6 .or-number2 .ensures,
+      c6 .ask2 .ensures,
       c7 .is-free .ensures,
-      c8 .or-number .ensures,
+      c8 .ask .ensures,
       c9 .only-if .ensures,
       c12 .is-login .ensures,
     )

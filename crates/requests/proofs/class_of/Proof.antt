@@ -5,7 +5,7 @@ use mathlib.Core.Path.{sym, _∙_, ap}
 use borrow.Author.Needs.{needs}
 use native.Mathlib.Omega.{arith}
 use Rattle.requests.specs.ClassCodes.{classNamed}
-use Rattle.requests.specs.Laws.ClassCodes.{named-coded, no-request, no-kind}
+use Rattle.requests.proofs.ClassCodes.{named-coded, no-request, no-kind}
 
 returns : tie.Need-returns
 returns c = sym (no-request (c .before .args .request) _ (omega (arith, c .if1 .taken)))

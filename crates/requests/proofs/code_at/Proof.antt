@@ -1,6 +1,6 @@
 -- Three bits of the table's word are the code: the word is `word_of`'s, and the table is right by its computed test.
 use borrow.Author.Needs.{needs}
-use Rattle.requests.specs.Laws.ClassCodes.{coded}
+use Rattle.requests.proofs.ClassCodes.{coded}
 use Rattle.requests.proofs.code_at.Statement.{statement}
 use Rattle.requests.proofs.code_at.Tie as tie
 

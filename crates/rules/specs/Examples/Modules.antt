@@ -4,7 +4,7 @@ use mathlib.Core.Path.{_≡_, refl}
 use mathlib.Core.Bool.{true, false}
 use mathlib.Core.List.{List, [], _∷_, _++_, map}
 use Rattle.labels.specs.Labels.{label}
-use Rattle.answers.specs.Answers.{combine, combined3, code, isNotGranted, isUndefined, grant, passes}
+use Rattle.answers.specs.Answers.{combine, combineAll, code, isNotGranted, isUndefined, grant, passes}
 use Rattle.answers.specs.Outcomes.{answersOf}
 use Rattle.rules.specs.Types.{Answer, NotCared, Granted, NotGranted, Undefined, Call, Process, User, Object, Facility}
 use Rattle.rules.specs.Computed.{everything, codes, call, switches, user, object}
@@ -40,9 +40,9 @@ unfolding everything
 table-4-7 = refl
 
 -- each module's answer is heard
-pub three-combined :
-    map (λ a. combined3 a NotCared NotCared) four ∷ map (λ a. combined3 NotCared a NotCared) four ∷ map (λ a. combined3 NotCared NotCared a) four
-    ∷ map (λ a. combined3 a Granted NotGranted) four ∷ map (λ a. combined3 NotGranted a Granted) four ∷ map (λ a. combined3 Granted NotGranted a) four
+pub all-combined :
+    map (λ a. combineAll a NotCared NotCared) four ∷ map (λ a. combineAll NotCared a NotCared) four ∷ map (λ a. combineAll NotCared NotCared a) four
+    ∷ map (λ a. combineAll a Granted NotGranted) four ∷ map (λ a. combineAll NotGranted a Granted) four ∷ map (λ a. combineAll Granted NotGranted a) four
     ∷ []
     ≡ four ∷ four ∷ four
     ∷ (NotGranted ∷ NotGranted ∷ NotGranted ∷ Undefined ∷ [])
@@ -50,7 +50,7 @@ pub three-combined :
     ∷ (NotGranted ∷ NotGranted ∷ NotGranted ∷ Undefined ∷ [])
     ∷ []
 unfolding everything
-three-combined = refl
+all-combined = refl
 
 -- a process with these levels and flag, an object of this level, and an owner
 abbrev process : ℕ → ℕ → ℕ → ℕ → Process

@@ -9,7 +9,8 @@ use Rattle.labels.specs.Labels.{label, leq, same, join, meet, given, lawful}
 use Rattle.state.specs.State.{processOf, objectOf, userOf, runs, live, isUser, trustedUser, labelOf, clearanceOf, isAutomatic, putProcess, putUser}
 use Rattle.state.specs.State.{putObject, dropObject, putRefusals, addUser, addObject, counted, allOff, freshProcess, noProcess, blank, cloned, opened}
 use Rattle.state.specs.State.{closed, deleted, terminated}
-use Rattle.opens.specs.Opens.{reading, writing, addModes, closeObject, closeProcess, copyProcess}
+use Rattle.rules.specs.Requests.{Keep, Add, Close, CloseAll}
+use Rattle.opens.specs.Opens.{reading, writing, addModes, marksAfter, closeObject, closeProcess, copyProcess}
 use Rattle.rules.specs.Types.{Switches, Process, User, Object, Facility}
 use Rattle.rules.specs.Computed.{everything, userBytes, objectBytes, processBytes, openBytes, counts}
 
@@ -80,6 +81,13 @@ pub added-modes :
     ≡ (0 ∷ 1 ∷ 2 ∷ 3 ∷ []) ∷ (1 ∷ 1 ∷ 3 ∷ 3 ∷ []) ∷ (2 ∷ 3 ∷ 2 ∷ 3 ∷ []) ∷ (3 ∷ 3 ∷ 3 ∷ 3 ∷ []) ∷ []
 unfolding everything
 added-modes = refl
+
+-- what each change of the opens makes of a pair's marks 0, 1, 2 and 3
+pub changed-marks :
+    map (λ x. map (marksAfter x) (0 ∷ 1 ∷ 2 ∷ 3 ∷ [])) (Keep ∷ Add 1 ∷ Add 2 ∷ Add 3 ∷ Close ∷ CloseAll ∷ [])
+    ≡ (0 ∷ 1 ∷ 2 ∷ 3 ∷ []) ∷ (1 ∷ 1 ∷ 3 ∷ 3 ∷ []) ∷ (2 ∷ 3 ∷ 2 ∷ 3 ∷ []) ∷ (3 ∷ 3 ∷ 3 ∷ 3 ∷ []) ∷ (0 ∷ 0 ∷ 0 ∷ 0 ∷ []) ∷ (0 ∷ 0 ∷ 0 ∷ 0 ∷ []) ∷ []
+unfolding everything
+changed-marks = refl
 
 -- A facility with users 0 and 1, objects 0 and 1, processes 0 and 31, and seven refusals.
 abbrev user0 : User

@@ -9,11 +9,11 @@ use Rattle.labels.specs.Decisions.{asked, at, on}
 use Rattle.labels.specs.Laws.Decisions.{and-l, and-r, and-i, ask-yes, ask-later, ask-i}
 use Rattle.answers.specs.Outcomes.{answersFrom}
 use Rattle.opens.specs.Opens.{mostProcesses, mostObjects}
-use Rattle.answers.specs.Answers.{combine, passes}
+use Rattle.answers.specs.Answers.{passes}
 use Rattle.answers.specs.Laws.Answers.{neither-passes, passes-not-granted, passes-undefined, passes-first}
 use Rattle.rules.specs.Calls.{accepted}
 use Rattle.rules.specs.Requests.{Action, lastRequest, isAbsent, isNoCondition, isLogin, isClone, isSendSignal, isSetLevel, isCreate, needsObject}
-use Rattle.rules.specs.Modules.{View, classIn, macRule, macAnswer, fcAnswer, simAnswer, answers}
+use Rattle.rules.specs.Modules.{View, classIn, macRule, macAnswer, answers}
 use Rattle.rules.specs.Questions.{inRange, isRunning, isFree, openFor, roomFor, numberBy, number}
 
 pub record Passed (k : Action) (v : View) (c : Call) : Type 0 where
@@ -92,7 +92,7 @@ all-passed k v c q =
 pub mac-passed : (k : Action) (v : View) (c : Call) → Passed k v c → on (v .switches .mac) ≡ true → passes (macRule k v c) ≡ true
 unfolding answers answersFrom macAnswer
 mac-passed k v c q m =
-    rw m at (passes-first (macAnswer k v c) (combine (fcAnswer k v c) (simAnswer k v c)) (q .answer))
+    rw m at (passes-first (macAnswer k v c) _ (q .answer))
 
 -- an accepted call has number 0
 pub accepted-zero : (f : Facility) (c : Call) → accepted f c ≡ true → number f c ≡ 0

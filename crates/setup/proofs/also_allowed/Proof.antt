@@ -1,6 +1,6 @@
 -- Nothing is asked.
 use mathlib.Core.Path.{sym}
-use Rattle.setup.specs.Laws.Progress.{nothing-asked}
+use Rattle.setup.proofs.SameNumber.{nothing-asked}
 use Rattle.setup.proofs.also_allowed.Statement.{statement}
 use Rattle.setup.proofs.also_allowed.Tie as tie
 

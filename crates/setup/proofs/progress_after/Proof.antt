@@ -1,6 +1,6 @@
 -- The count that is kept does not rise above what it was.
 use native.Mathlib.Omega.{arith}
-use Rattle.setup.specs.Laws.Progress.{count-most-after}
+use Rattle.setup.proofs.SameNumber.{count-most-after}
 use borrow.Author.Needs.{needs}
 use Rattle.setup.proofs.progress_after.Statement.{statement}
 use Rattle.setup.proofs.progress_after.Tie as tie

@@ -6,7 +6,7 @@ use mathlib.Core.List.{[], _∷_}
 use borrow.Author.Needs.{needs}
 use Rattle.rules.specs.declared.SetupRecord.{SetupRecord}
 use Rattle.setup.specs.Writing.{Stored}
-use Rattle.setup.specs.Laws.WritingLoop.{live-stored, dead-stored}
+use Rattle.setup.proofs.WritingLoop.{live-stored, dead-stored}
 
 returns : tie.Need-returns
 returns c =

@@ -9,7 +9,7 @@ use Rattle.state.specs.declared.Object.{Object}
 use Rattle.state.specs.State.{objectIn, objectsFrom}
 use Rattle.rules.specs.Setup.{objectRecord}
 use Rattle.setup.specs.Writing.{Stored, liveIn, objectRecords, liveRecord}
-use Rattle.setup.specs.Laws.WritingLoop.{section-begins, section-goes-on, section-most, stored-length}
+use Rattle.setup.proofs.WritingLoop.{section-begins, section-goes-on, section-most, stored-length}
 
 abbrev Inv-loop : tie.InvT-loop
 Inv-loop out₀ start lives kinds levels categories datatypes n place₀ k₀ out place k =

@@ -5,7 +5,7 @@ use lib.ListN.{length-set}
 use native.Mathlib.Omega.{arith}
 use native.Mathlib.Numerals.{towards-suc}
 use borrow.Author.Needs.{needs}
-use Rattle.setup.specs.Laws.WritingLoop.{one-fits, one-left}
+use Rattle.setup.proofs.WritingLoop.{one-fits, one-left}
 
 returns : tie.Need-returns
 returns c = let a = c .before .args in one-left (a .out .now) (a .place) (a .r) (c .if1 .taken)

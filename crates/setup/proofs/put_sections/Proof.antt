@@ -10,7 +10,7 @@ use Rattle.state.specs.State.{switchesOf, usersIn, userIn}
 use Rattle.rules.specs.declared.SetupRecord.{SetupRecord}
 use Rattle.rules.specs.Setup.{switchesRecord, userRecord, every, usersSection, objectsSection, setupRecords}
 use Rattle.setup.specs.Writing.{Stored}
-use Rattle.setup.specs.Laws.WritingLoop.{section-most, nothing, then}
+use Rattle.setup.proofs.WritingLoop.{section-most, nothing, then}
 
 put-objects-requires : tie.Need-put-objects-requires
 put-objects-requires c κs =

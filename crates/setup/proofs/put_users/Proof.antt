@@ -10,7 +10,7 @@ use Rattle.state.specs.State.{userIn, usersFrom}
 use Rattle.rules.specs.declared.SetupRecord.{SetupRecord}
 use Rattle.rules.specs.Setup.{userRecord, every}
 use Rattle.setup.specs.Writing.{Stored, userRecords}
-use Rattle.setup.specs.Laws.WritingLoop.{section-begins, section-goes-on, section-most, stored-length}
+use Rattle.setup.proofs.WritingLoop.{section-begins, section-goes-on, section-most, stored-length}
 
 abbrev Inv-loop : tie.InvT-loop
 Inv-loop out₀ start clearances roles trusts n place₀ k₀ out place k =

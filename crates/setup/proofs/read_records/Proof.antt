@@ -7,7 +7,7 @@ use native.Mathlib.Omega.{arith}
 use borrow.Author.Needs.{needs}
 use Rattle.state.specs.State.{blank}
 use Rattle.rules.specs.Setup.{refusedSetup}
-use Rattle.setup.specs.Laws.ReadingLoop.{At, begins, goes-on, stops, few, ends}
+use Rattle.setup.proofs.ReadingLoop.{At, begins, goes-on, stops, few, ends}
 
 abbrev Inv-loop : tie.InvT-loop
 Inv-loop s count f₀ before₀ k₀ f before k = (k ≤ count) × At s count k f before

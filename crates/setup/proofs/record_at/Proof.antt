@@ -4,7 +4,7 @@ use Rattle.setup.proofs.record_at.Tie as tie
 use Prim.Native.Nat.{_*_}
 use mathlib.Core.Path.{sym, _∙_}
 use borrow.Author.Needs.{needs}
-use Rattle.setup.specs.Laws.ReadingLoop.{at-drop, at-drop-0}
+use Rattle.setup.proofs.ReadingLoop.{at-drop, at-drop-0}
 
 returns : tie.Need-returns
 returns c =

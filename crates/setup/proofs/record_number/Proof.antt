@@ -10,9 +10,9 @@ returns c =
     let c5 = c .before .before .before .before .before in
     let d = c5 .before .before .kind-of .ensures in
     rw (
-      c .or-number3 .ensures,
-      c .before .or-number2 .ensures,
-      c .before .before .or-number .ensures,
+      c .ask3 .ensures,
+      c .before .ask2 .ensures,
+      c .before .before .ask .ensures,
       c .before .before .before .allowed-by .ensures,
       c5 .count-of .ensures,
       c5 .before .fits2 .ensures,

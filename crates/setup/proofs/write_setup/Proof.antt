@@ -9,7 +9,7 @@ use native.Mathlib.Omega.{arith}
 use borrow.Author.Needs.{needs}
 use Rattle.rules.specs.Setup.{setupRecords}
 use Rattle.setup.specs.Writing.{Stored}
-use Rattle.setup.specs.Laws.WritingLoop.{put-none, no-room, all-room}
+use Rattle.setup.proofs.WritingLoop.{put-none, no-room, all-room}
 
 returns : tie.Need-returns
 returns c =

@@ -7,14 +7,19 @@ use Rattle.state.proofs.process_at.Tie as tie
 returns : tie.Need-returns
 unfolding processIn
 returns c =
-    let c3 = c .before .before .before in
+    let c6 = c in
+    let c5 = c6 .before in
+    let c4 = c5 .before in
+    let c3 = c4 .before in
+    let c2 = c3 .before in
+    let c1 = c2 .before in
     λ i. record {
-      running = c .before .before .at .ensures i;
-      owner = c .before .at2 .ensures i;
-      current = c3 .before .before .label-at .ensures i;
-      readmark = c3 .before .label-at2 .ensures i;
+      running = c4 .at .ensures i;
+      owner = c5 .at2 .ensures i;
+      current = c1 .label-at .ensures i;
+      readmark = c2 .label-at2 .ensures i;
       writemark = c3 .label-at3 .ensures i;
-      automatic = c .at3 .ensures i;
+      automatic = c6 .at3 .ensures i;
     }
 
 pub process-at-spec : {M : Type 1} → statement M

@@ -4,14 +4,14 @@ use mathlib.Core.Path.{_≡_, ap, _∙_, sym}
 use mathlib.Core.List.{List}
 use mathlib.Core.Logic.{_≢_}
 use lib.ListN.{length, set, length-set}
-use lib.Seq.{getD-set-same, getD-set-other, set-out}
+use lib.Seq.{getD-set-same, getD-set-other, set-out, set-getD}
 use native.Mathlib.Omega.{arith}
 use borrow.Author.Tests.{lt-ltb}
 use Rattle.labels.specs.Decisions.{at}
 use Rattle.state.specs.State.{Facility, Process, processIn, processOf, putProcess, User, mostUsers, userIn, userOf, putUser, Object, objectIn}
 use Rattle.state.specs.State.{objectOf, putObject, addUser, addObject, putOpens, dropObject, putRefusals, opensOf, processesFrom, usersIn, objectsIn}
 use Rattle.state.specs.State.{processesIn, with, objectsFrom, putMarks, deleted}
-use Rattle.opens.specs.Opens.{mostProcesses, mostObjects, mostOpens, place}
+use Rattle.opens.specs.Opens.{mostProcesses, mostObjects, mostOpens, place, markPlace}
 use Rattle.labels.specs.Labels.{label}
 use Rattle.state.specs.Shaped.{Shaped, ProcessesShaped}
 use Rattle.opens.specs.Laws.Opens.{mark-place, no-process-place}
@@ -206,6 +206,11 @@ pub opens-out : (f : Facility) (n v : ℕ) → length (f .opens) ≡ mostOpens �
 unfolding putOpens
 opens-out f n v e h =
     λ i. with f (f .users) (usersIn f) (f .entered) (objectsIn f) (processesIn f) (set-out (f .opens) n v (omega arith) i) (f .refusals)
+
+-- marks that are put back as they were
+pub marks-kept : (f : Facility) (p t : ℕ) → putMarks f p t (opensOf f p t) ≡ f
+unfolding putOpens opensOf
+marks-kept f p t = ap (putOpens f) (set-getD (f .opens) (markPlace p t) 0)
 
 pub drop-out : (f : Facility) (t : ℕ) → length (f .lives) ≡ mostObjects → mostObjects ≤ t → dropObject f t ≡ f
 unfolding dropObject

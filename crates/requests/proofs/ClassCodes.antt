@@ -13,7 +13,7 @@ use Rattle.requests.specs.ClassCodes.{classNamed, classWords}
 use Rattle.rules.specs.Requests.{classCode, lastRequest, Listed, classAmong, files, directories, channels, controlData, listOf, classOf}
 use Rattle.labels.specs.Decisions.{_and_, at}
 use Rattle.labels.specs.Laws.Decisions.{and-l, and-r, by-test}
-use Rattle.requests.specs.Laws.Table.{every, entry}
+use Rattle.requests.proofs.Table.{every, entry}
 
 pub named-coded : (k : Class) → classNamed (classCode k) ≡ k
 named-coded Absent = refl

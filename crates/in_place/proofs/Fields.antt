@@ -9,14 +9,15 @@ use lib.ListN.{length, drop-of-length-le, set, take, take-append-drop, drop}
 use native.Mathlib.Omega.{arith}
 use borrow.Author.Tests.{eq-eqb, ne-eqb, ltb-true, ltb-false}
 use Rattle.labels.specs.Laws.Decisions.{by-eq, by-test}
-use Rattle.in_place.specs.Stores.{storeField, storeIn, Becomes}
+use Rattle.in_place.specs.Stores.{storeField, storeIn, Becomes, paddingIn}
 use Rattle.in_place.specs.Layout.{size, offset, fieldOf, wholeSize, theRefusals, fourBytes, facilityAt, theMac, theFc, theSim, theUsers, theEntered}
-use Rattle.in_place.specs.Layout.{facilityOf, theOpens, thePadding}
-use Rattle.in_place.specs.Laws.Stores.{store-inside, stored, before, length-store}
-use Rattle.in_place.specs.Fields.{Fields, putField, Bytes, countsPut, usersPut, objectsPut, processesPut}
-use Rattle.in_place.specs.Laws.Changes.{field-length}
+use Rattle.in_place.specs.Layout.{facilityOf, theOpens, thePadding, lastField, theClearances, theRoles, theTrusts, theLives, theKinds, theLevels}
+use Rattle.in_place.specs.Layout.{theCategories, theDatatypes, theRunnings, theOwners, theCurrents, theReadmarks, theWritemarks, theAutomatics}
+use Rattle.in_place.proofs.Stores.{store-inside, stored, before, length-store}
+use Rattle.in_place.specs.Fields.{Fields, putField, Bytes, BecomesUnique, countsPut, usersPut, objectsPut, processesPut}
+use Rattle.in_place.proofs.Changes.{field-length}
 use Rattle.labels.specs.Decisions.{at}
-use Rattle.in_place.specs.Laws.Layout.{byte-in, byte-past}
+use Rattle.in_place.proofs.BytesOfParts.{byte-in, byte-past}
 use Rattle.state.specs.declared.Facility.{Facility}
 use Rattle.opens.specs.Opens.{mostOpens}
 use Rattle.state.specs.State.{usersIn, objectsIn, processesIn, putRefusals, putOpens}
@@ -48,11 +49,11 @@ all-set l o h =
 pub fields-of : (s : List ℕ) → length s ≡ wholeSize → Fields s (fieldOf s)
 fields-of s h = record { long = h; are = refl }
 
-within : (s : List ℕ) (g : ℕ → List ℕ) (k : ℕ) → Fields s g → k ≤ theRefusals → offset k + size k ≤ length s
-within s g k h b = let w = before k (suc theRefusals) (omega arith) in let l = h .long in omega arith
+within : (s : List ℕ) (g : ℕ → List ℕ) (k : ℕ) → Fields s g → k ≤ lastField → offset k + size k ≤ length s
+within s g k h b = let w = before k (suc lastField) (omega arith) in let l = h .long in omega arith
 
 -- what the code's store of a whole field, and of a field of one byte, makes of the fields
-pub field-stored : (s m l : List ℕ) (g : ℕ → List ℕ) (k : ℕ) → Fields s g → k ≤ theRefusals → length l ≡ size k → m ≡ sets s (offset k) l
+pub field-stored : (s m l : List ℕ) (g : ℕ → List ℕ) (k : ℕ) → Fields s g → k ≤ lastField → length l ≡ size k → m ≡ sets s (offset k) l
     → Fields m (putField g k l)
 field-stored s m l g k f b n h =
     let z : offset k ≡ offset k + 0 = omega arith in
@@ -70,7 +71,7 @@ only-byte [] v h = absurd (omega arith)
 only-byte (x ∷ []) v h = refl
 only-byte (x ∷ y ∷ l) v h = absurd (omega arith)
 
-pub byte-stored : (s m : List ℕ) (g : ℕ → List ℕ) (k v : ℕ) → Fields s g → k ≤ theRefusals → size k ≡ 1 → m ≡ storeIn s (offset k) (size k) 0 v
+pub byte-stored : (s m : List ℕ) (g : ℕ → List ℕ) (k v : ℕ) → Fields s g → k ≤ lastField → size k ≡ 1 → m ≡ storeIn s (offset k) (size k) 0 v
     → Fields m (putField g k (v ∷ []))
 byte-stored s m g k v f b z h =
     let n : length (g k) ≡ 1 = ap (λ (x : ℕ → List ℕ). length (x k)) (sym (f .are)) ∙ field-length s k (within s g k f b) ∙ z in
@@ -79,15 +80,9 @@ byte-stored s m g k v f b z h =
       are = stored s m g k 0 v (f .are) h ∙ ap (λ (x : List ℕ). putField g k x) (only-byte (g k) v n);
     }
 
--- two lists of bytes agree where their first k fields do
-abbrev Agree : List ℕ → List ℕ → ℕ → Type 0
-Agree m n zero = Unit {0}
-Agree m n (suc k) = Agree m n k × (fieldOf m k ≡ fieldOf n k)
-
-agree-taken : (m n : List ℕ) (k : ℕ) → Agree m n k → take (offset k) m ≡ take (offset k) n
-agree-taken m n zero h = refl
-agree-taken m n (suc k) h =
-    take-add (offset k) (size k) m ∙ ap₂ (λ (x y : List ℕ). x ++ y) (agree-taken m n k (h .0)) (h .1) ∙ sym (take-add (offset k) (size k) n)
+-- two lists of bytes that are the same up to a field, and in it
+and-field : (m n : List ℕ) (k : ℕ) → take (offset k) m ≡ take (offset k) n → fieldOf m k ≡ fieldOf n k → take (offset (suc k)) m ≡ take (offset (suc k)) n
+and-field m n k t h = take-add (offset k) (size k) m ∙ ap₂ (λ (x y : List ℕ). x ++ y) t h ∙ sym (take-add (offset k) (size k) n)
 
 all-taken : (m : List ℕ) (k : ℕ) → length m ≤ k → take k m ≡ m
 all-taken m k h =
@@ -135,8 +130,7 @@ field-of-one m n k a b h z e =
     let y = field-length n k (omega arith) in
     one-byte (fieldOf m k) (fieldOf n k) (omega arith) (omega arith) e
 
--- What `Becomes` promises fixes every byte: bytes of the same facility with the same padding are the same bytes.
-pub becomes-unique : (s m n : List ℕ) (f : Facility) → Bytes m → Bytes n → Becomes s m f → Becomes s n f → m ≡ n
+pub becomes-unique : BecomesUnique
 unfolding facilityAt
 becomes-unique s m n f a b p q =
     let e = p .0 ∙ sym (q .0) in
@@ -150,62 +144,29 @@ becomes-unique s m n f a b p q =
     let refusals =
     same-four (fieldOf m theRefusals) (fieldOf n theRefusals) (field-length m theRefusals (omega arith)) (field-length n theRefusals (omega arith))
     (λ i. field-byte m theRefusals i (a .below)) (λ i. field-byte n theRefusals i (b .below)) (ap (λ (x : Facility). x .refusals) e) in
-    sym (all-taken m wholeSize (omega arith))
-    ∙ agree-taken m n (suc theRefusals) (
-      (
-        (
-          (
-            (
-              (
-                (
-                  (
-                    (
-                      (
-                        (
-                          (
-                            (
-                              (
-                                (
-                                  (
-                                    (
-                                      (
-                                        ((((tt, mac), fc), sim), users),
-                                        ap (λ (x : Facility). x .clearances) e,
-                                      ),
-                                      ap (λ (x : Facility). x .roles) e,
-                                    ),
-                                    ap (λ (x : Facility). x .trusts) e,
-                                  ),
-                                  entered,
-                                ),
-                                ap (λ (x : Facility). x .lives) e,
-                              ),
-                              ap (λ (x : Facility). x .kinds) e,
-                            ),
-                            ap (λ (x : Facility). x .levels) e,
-                          ),
-                          ap (λ (x : Facility). x .categories) e,
-                        ),
-                        ap (λ (x : Facility). x .datatypes) e,
-                      ),
-                      ap (λ (x : Facility). x .runnings) e,
-                    ),
-                    ap (λ (x : Facility). x .owners) e,
-                  ),
-                  ap (λ (x : Facility). x .currents) e,
-                ),
-                ap (λ (x : Facility). x .readmarks) e,
-              ),
-              ap (λ (x : Facility). x .writemarks) e,
-            ),
-            ap (λ (x : Facility). x .automatics) e,
-          ),
-          ap (λ (x : Facility). x .opens) e,
-        ),
-        p .1 ∙ sym (q .1),
-      ),
-      refusals,
-    )
+    let t = and-field m n theMac refl mac in
+    let t = and-field m n theFc t fc in
+    let t = and-field m n theSim t sim in
+    let t = and-field m n theUsers t users in
+    let t = and-field m n theClearances t (ap (λ (x : Facility). x .clearances) e) in
+    let t = and-field m n theRoles t (ap (λ (x : Facility). x .roles) e) in
+    let t = and-field m n theTrusts t (ap (λ (x : Facility). x .trusts) e) in
+    let t = and-field m n theEntered t entered in
+    let t = and-field m n theLives t (ap (λ (x : Facility). x .lives) e) in
+    let t = and-field m n theKinds t (ap (λ (x : Facility). x .kinds) e) in
+    let t = and-field m n theLevels t (ap (λ (x : Facility). x .levels) e) in
+    let t = and-field m n theCategories t (ap (λ (x : Facility). x .categories) e) in
+    let t = and-field m n theDatatypes t (ap (λ (x : Facility). x .datatypes) e) in
+    let t = and-field m n theRunnings t (ap (λ (x : Facility). x .runnings) e) in
+    let t = and-field m n theOwners t (ap (λ (x : Facility). x .owners) e) in
+    let t = and-field m n theCurrents t (ap (λ (x : Facility). x .currents) e) in
+    let t = and-field m n theReadmarks t (ap (λ (x : Facility). x .readmarks) e) in
+    let t = and-field m n theWritemarks t (ap (λ (x : Facility). x .writemarks) e) in
+    let t = and-field m n theAutomatics t (ap (λ (x : Facility). x .automatics) e) in
+    let t = and-field m n theOpens t (ap (λ (x : Facility). x .opens) e) in
+    let t = and-field m n thePadding t (p .1 ∙ sym (q .1)) in
+    let t = and-field m n theRefusals t refusals in
+    sym (all-taken m wholeSize (omega arith)) ∙ t
     ∙ all-taken n wholeSize (omega arith)
 
 -- A facility by value is stored field by field: the bytes become its.
@@ -221,7 +182,7 @@ stored-whole s m1 m2 m3 m4 m5 m6 f n h1 h2 h3 h4 h5 h6 =
     let e4 = h4 .are ∙ ap (λ (g : ℕ → List ℕ). processesPut g (processesIn f)) e3 in
     let f5 = field-stored m4 m5 (f .opens) (fieldOf m4) theOpens (fields-of m4 (h4 .long)) (omega arith) n h5 in
     let e5 = f5 .are ∙ ap (λ (g : ℕ → List ℕ). putField g theOpens (f .opens)) e4 in
-    (h6 .0 ∙ ap (λ (g : ℕ → List ℕ). putRefusals (facilityOf g) (f .refusals)) e5, h6 .1 ∙ ap (λ (g : ℕ → List ℕ). g thePadding) e5)
+    (h6 .0 ∙ ap (λ (g : ℕ → List ℕ). putRefusals (facilityOf g) (f .refusals)) e5, h6 .1 ∙ ap paddingIn e5)
 
 -- the opens are lent, and come back changed
 pub opens-lent : (s l : List ℕ) → length s ≡ wholeSize → length l ≡ mostOpens
@@ -234,4 +195,4 @@ opens-lent s l n e =
     ∙ sym (append-assoc (take (offset theOpens) s) l (drop (offset theOpens + length l) s))
     ∙ sym (sets-eq l s (offset theOpens) (omega (arith, n, e))) in
     let a = field-stored s _ l (fieldOf s) theOpens (fields-of s n) (omega arith) e h .are in
-    (ap (λ (g : ℕ → List ℕ). facilityOf g) a, ap (λ (g : ℕ → List ℕ). g thePadding) a)
+    (ap (λ (g : ℕ → List ℕ). facilityOf g) a, ap paddingIn a)

@@ -1,6 +1,6 @@
--- The result is `getD array i 0`.
-use Rattle.state.proofs.at.Statement.{statement}
-use Rattle.state.proofs.at.Tie as tie
+-- The result is `at array i`.
+use Rattle.labels.proofs.at.Statement.{statement}
+use Rattle.labels.proofs.at.Tie as tie
 use mathlib.Core.Path.{sym}
 use lib.ListN.{List·getD-eq-default}
 use borrow.Author.Needs.{needs}

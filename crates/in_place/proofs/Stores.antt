@@ -8,11 +8,11 @@ use lib.Dec.{ltb}
 use lib.Seq.{set-out, getD-set-same, getD-set-other, ext-getD}
 use native.Mathlib.Omega.{arith}
 use borrow.Author.Tests.{lt-ltb, le-ltb, eq-eqb, ne-eqb, ltb-true, ltb-false}
-use Rattle.in_place.specs.Stores.{storeIn, storeField, padding}
+use Rattle.in_place.specs.Stores.{storeIn, storeField, padding, paddingIn}
 use Rattle.labels.specs.Laws.Decisions.{by-test, by-eq}
-use Rattle.in_place.specs.Layout.{part, size, offset, fieldOf, theOpens, thePadding, theLives, theEntered}
+use Rattle.in_place.specs.Layout.{part, size, offset, fieldOf, theOpens, theEntered}
 use Rattle.labels.specs.Decisions.{at}
-use Rattle.in_place.specs.Laws.Layout.{byte-in}
+use Rattle.in_place.proofs.BytesOfParts.{byte-in}
 
 pub store-inside : (s : List ℕ) (from n i v : ℕ) → i < n → set s (from + i) v ≡ storeIn s from n i v
 unfolding storeIn
@@ -97,15 +97,12 @@ pub stored : (s m : List ℕ) (g : ℕ → List ℕ) (k i v : ℕ) → fieldOf s
 stored s m g k i v e h =
     ap (λ (x : List ℕ). fieldOf x) h ∙ fun-ext (λ j. field-at s k i v j) ∙ ap (λ (x : ℕ → List ℕ). storeField x k i v) e
 
--- a store among the marks, the flags of live objects and the count of objects keeps the padding
+-- a store among the marks and into the count of objects keeps the padding
 pub padding-marks : (s m : List ℕ) (i v : ℕ) → m ≡ storeIn s (offset theOpens) (size theOpens) i v → padding m ≡ padding s
-padding-marks s m i v h = ap (λ (g : ℕ → List ℕ). g thePadding) (stored s m (fieldOf s) theOpens i v refl h)
-
-pub padding-live : (s m : List ℕ) (i v : ℕ) → m ≡ storeIn s (offset theLives) (size theLives) i v → padding m ≡ padding s
-padding-live s m i v h = ap (λ (g : ℕ → List ℕ). g thePadding) (stored s m (fieldOf s) theLives i v refl h)
+padding-marks s m i v h = ap paddingIn (stored s m (fieldOf s) theOpens i v refl h)
 
 pub padding-entered : (s m : List ℕ) (i v : ℕ) → m ≡ storeIn s (offset theEntered) (size theEntered) i v → padding m ≡ padding s
-padding-entered s m i v h = ap (λ (g : ℕ → List ℕ). g thePadding) (stored s m (fieldOf s) theEntered i v refl h)
+padding-entered s m i v h = ap paddingIn (stored s m (fieldOf s) theEntered i v refl h)
 
-pub padding-fields : (s m : List ℕ) (g : ℕ → List ℕ) → fieldOf m ≡ g → g thePadding ≡ padding s → padding m ≡ padding s
-padding-fields s m g e h = ap (λ (x : ℕ → List ℕ). x thePadding) e ∙ h
+pub padding-fields : (s m : List ℕ) (g : ℕ → List ℕ) → fieldOf m ≡ g → paddingIn g ≡ padding s → padding m ≡ padding s
+padding-fields s m g e h = ap paddingIn e ∙ h

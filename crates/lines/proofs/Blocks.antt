@@ -19,11 +19,11 @@ use Rattle.text.specs.Laws.Stored.{then, as-text}
 use Rattle.state.specs.declared.Call.{Call}
 use Rattle.answers.specs.declared.Outcome.{Outcome}
 use Rattle.lines.specs.Texts.{lineText}
-use Rattle.lines.specs.Laws.Texts.{line-is}
+use Rattle.lines.proofs.Texts.{line-is}
 use Rattle.labels.specs.Decisions.{at}
 use Rattle.state.specs.declared.Process.{Process}
 use Rattle.state.specs.State.{processIn, processOf}
-use Rattle.lines.specs.Blocks.{linesOf, facilityAfter}
+use Rattle.lines.specs.Blocks.{linesOf, facilityAfter, WholeByBlocks}
 use Rattle.rules.specs.Text.{ascii}
 use Rattle.labels.specs.Laws.Decisions.{by-eq}
 
@@ -185,9 +185,7 @@ lines-joined i f (c ∷ cs) ds =
     ∙ ap (λ (k : ℕ). callLines (i + 1) (after f c) cs ++ callLines k (run (after f c) cs) ds) e)
     ∙ sym (append-assoc (callLine i f c) (callLines (i + 1) (after f c) cs) (callLines (i + suc (length cs)) (run (after f c) cs) ds))
 
-pub whole-by-blocks : (i : ℕ) (f : Facility) (a b : List ℕ) → length a % 4 ≡ 0
-    → callLines i f (callsOf (a ++ b)) ++ shortLine (a ++ b)
-    ≡ (callLines i f (callsOf a) ++ shortLine a) ++ (callLines (i + length a / 4) (run f (callsOf a)) (callsOf b) ++ shortLine b)
+pub whole-by-blocks : WholeByBlocks
 unfolding shortLine
 whole-by-blocks i f a b h =
     let n = length-append a b in

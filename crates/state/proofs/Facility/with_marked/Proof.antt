@@ -1,5 +1,5 @@
--- Process p is stored as with_process stores it, and then its mark on object t gets the modes; a number that is none changes nothing.
-use Rattle.opens.specs.Opens.{mostProcesses, mostOpens, addModes}
+-- Process p is stored, and then its mark on object t; a number that is none changes nothing.
+use Rattle.opens.specs.Opens.{mostProcesses, mostOpens, marksAfter}
 use Rattle.state.specs.State.{processesIn, putProcess, putOpens, opensOf}
 use Rattle.state.specs.Shaped.{ProcessesShaped}
 use Rattle.state.specs.Laws.ReadBack.{opens-out, marks-of-none}
@@ -8,12 +8,12 @@ use lib.ListN.{length}
 use mathlib.Core.Path.{_≡_, sym}
 use Prim.Native.Nat.{ℕ}
 use borrow.Author.Needs.{needs}
-use Rattle.state.proofs.Facility.opened.Statement.{statement}
-use Rattle.state.proofs.Facility.opened.Tie as tie
+use Rattle.state.proofs.Facility.with_marked.Statement.{statement}
+use Rattle.state.proofs.Facility.with_marked.Tie as tie
 
 returns : tie.Need-returns
 unfolding putProcess putOpens opensOf
-returns c = rw (c .add-modes .ensures, c .before .at .ensures, c .before .before .before .before .before .before .before .mark-place .ensures)
+returns c = rw (c .marks-after .ensures, c .before .at .ensures, c .before .before .before .before .before .before .before .mark-place .ensures)
 
 returns-2 : tie.Need-returns-2
 unfolding putProcess
@@ -40,10 +40,10 @@ returns-3 c =
       automatics = length-unmapped ℕ (f .automatics) mostProcesses (g .1 .1 .1 .1 .1 .0 .1 .0 .1);
     } in
     let n : length (f .opens) ≡ mostOpens = length-unmapped ℕ (f .opens) mostOpens (g .1 .1 .1 .1 .1 .1 .0 .1 .0 .1) in
-    sym (marks-of-none f (a .p) (a .t) (λ x. addModes x (a .modes)) (a .r) s n (c .if1 .left))
+    sym (marks-of-none f (a .p) (a .t) (λ x. marksAfter (a .change) x) (a .r) s n (c .if1 .left))
 
-pub opened-spec : {M : Type 1} → statement M
-opened-spec =
+pub with-marked-spec : {M : Type 1} → statement M
+with-marked-spec =
     tie.close
     (tie.spec (λ c κs. search needs) (λ c. search needs) (λ c. search needs) (λ c. search needs) (λ c. search needs) (λ c. search needs)
     (λ c. search needs) (λ c. search needs) (λ c κs. search needs) (λ c κs. search needs) (λ c. search needs) returns returns-2 returns-3)

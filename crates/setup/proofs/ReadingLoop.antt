@@ -14,7 +14,7 @@ use Rattle.rules.specs.Setup.{recordsOf, firstRecord, enterAll, enterRecord, re
 use Rattle.state.specs.declared.Facility.{Facility}
 use Rattle.state.specs.State.{allOff, blank}
 use Rattle.setup.specs.Progress.{Progress, numberAfter, progressAfter}
-use Rattle.setup.specs.Laws.Progress.{Kept, none, number-same, kept-more, kept-few}
+use Rattle.setup.proofs.SameNumber.{Kept, none, number-same, kept-more, kept-few}
 use Rattle.rules.specs.Kinds.{recordNumber}
 use Rattle.rules.specs.Proofs.Records.{accepts}
 use Rattle.answers.specs.declared.SetupOutcome.the-variants.{Accepted}

@@ -9,23 +9,19 @@ use borrow.Author.Tests.{lt-ltb, le-ltb}
 use Rattle.state.specs.declared.Process.{Process}
 use Rattle.state.specs.State.{putProcess, putOpens, changed, noProcess, terminated, processOf, cloned, dropObject, deleted, usersIn, objectsFrom}
 use Rattle.state.specs.State.{processesIn, with, putObject, addObject, putRefusals, mostRefusals, counted}
-use Rattle.in_place.specs.Layout.{fieldOf, facilityOf, facilityAt, theAutomatics, theCurrents, theOwners, theRunnings, theWritemarks, theReadmarks}
-use Rattle.in_place.specs.Layout.{size, offset, theOpens, wholeSize, theLives, thePadding, theCategories, theDatatypes, theKinds, theLevels}
+use Rattle.in_place.specs.Layout.{fieldOf, facilityOf, facilityAt}
+use Rattle.in_place.specs.Layout.{size, offset, theOpens, wholeSize, theLives, theCategories, theDatatypes, theKinds, theLevels}
 use Rattle.in_place.specs.Layout.{theEntered, fourBytes, theRefusals}
-use Rattle.in_place.specs.Stores.{storeField, storeIn, Becomes, storeObject}
+use Rattle.in_place.specs.Stores.{storeField, storeIn, Becomes, storeProcess, storeObject, paddingIn}
 use Rattle.state.specs.declared.Facility.{Facility}
-use Rattle.in_place.specs.Laws.Stores.{stored}
+use Rattle.in_place.proofs.Stores.{stored}
 use Rattle.opens.specs.Opens.{mostOpens, mostObjects, closeProcess, copyProcess, closeObject}
 use Rattle.state.specs.declared.Change.{Change}
 use Rattle.labels.specs.Decisions.{at}
 use Rattle.state.specs.declared.Object.{Object}
 
--- six stores of a process
-pub process-stored : (s m : List ℕ) (p : ℕ) (r : Process)
-    → fieldOf m ≡ storeField (storeField (storeField (storeField (storeField (storeField (fieldOf s) theRunnings p (r .running)) theOwners p (r .owner))
-    theCurrents p (r .current .level))
-    theReadmarks p (r .readmark .level)) theWritemarks p (r .writemark .level)) theAutomatics p (r .automatic)
-    → facilityAt m ≡ putProcess (facilityAt s) p r
+-- the stores of a process
+pub process-stored : (s m : List ℕ) (p : ℕ) (r : Process) → fieldOf m ≡ storeProcess (fieldOf s) p r → facilityAt m ≡ putProcess (facilityAt s) p r
 unfolding facilityAt putProcess
 process-stored s m p r e = ap (λ (g : ℕ → List ℕ). facilityOf g) e
 
@@ -52,10 +48,6 @@ pub opens-length : (s : List ℕ) → length s ≡ wholeSize → length (facilit
 unfolding facilityAt
 opens-length s h = field-length s theOpens (omega arith)
 
-pub lives-length : (s : List ℕ) → length s ≡ wholeSize → length (facilityAt s .lives) ≡ mostObjects
-unfolding facilityAt
-lives-length s h = field-length s theLives (omega arith)
-
 -- what is made of the bytes one after the other
 pub becomes-then : (s m q : List ℕ) (f : Facility) (F : Facility → Facility) → Becomes s m f → Becomes m q (F (facilityAt m)) → Becomes s q (F f)
 becomes-then s m q f F a b = (b .0 ∙ ap F (a .0), b .1 ∙ a .1)
@@ -81,7 +73,7 @@ dropped-is : (m q : List ℕ) (t : ℕ) → q ≡ storeIn m (offset theLives) (s
 unfolding facilityAt dropObject
 dropped-is m q t h =
     let e = stored m q (fieldOf m) theLives t 0 refl h in
-    (ap (λ (g : ℕ → List ℕ). facilityOf g) e, ap (λ (g : ℕ → List ℕ). g thePadding) e)
+    (ap (λ (g : ℕ → List ℕ). facilityOf g) e, ap paddingIn e)
 
 pub deleted-is : (s m q : List ℕ) (t : ℕ) → Becomes s m (putOpens (facilityAt s) (closeObject (facilityAt s .opens) t))
     → q ≡ storeIn m (offset theLives) (size theLives) t 0 → Becomes s q (deleted (facilityAt s) t)

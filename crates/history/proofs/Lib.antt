@@ -1,0 +1,2 @@
+-- Laws that only this crate's proofs cite, and proofs of its statements.
+pub mod Replayed

@@ -1,0 +1,5 @@
+-- Laws that only this crate's proofs cite, and proofs of its statements.
+pub mod Stores
+pub mod BytesOfParts
+pub mod Changes
+pub mod Fields

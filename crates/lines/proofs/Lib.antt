@@ -1,0 +1,3 @@
+-- Laws that only this crate's proofs cite, and proofs of its statements.
+pub mod Texts
+pub mod Blocks

@@ -1,3 +1,0 @@
--- Laws, which other crates cite; nobody has to read their proofs.
-pub mod Blocks
-pub mod Texts

@@ -1,2 +1,0 @@
--- Laws, which other crates cite; nobody has to read their proofs.
-pub mod Mac

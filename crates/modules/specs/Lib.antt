@@ -1,2 +1,0 @@
--- Laws of the modules' rules.
-pub mod Laws

@@ -1,0 +1,5 @@
+-- Laws that only this crate's proofs cite, and proofs of its statements.
+pub mod SameNumber
+pub mod ReadingLoop
+pub mod WritingLoop
+pub mod RoundTrips
