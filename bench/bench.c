@@ -57,7 +57,7 @@ static void random_call(uint8_t c[4])
 
 static int same(const hv_facility *a, const hv_facility *b)
 {
-    return memcmp(a, b, offsetof(hv_facility, opens) + sizeof a->opens) == 0 && a->refusals == b->refusals;
+    return memcmp(a, b, offsetof(hv_facility, opens) + sizeof a->opens) == 0 && memcmp(a->refusals, b->refusals, sizeof a->refusals) == 0;
 }
 
 /* Random calls on random set-ups: outcome, state, query and set-up written out are the same. */
@@ -148,7 +148,7 @@ static void proved_enforce_at(const list *l)
     hv_facility f = l->start;
     uint32_t sum = 0;
     for (int k = 0; k < l->n; k++) sum += hv_enforce_at(&f, l->calls[k][0], l->calls[k][1], l->calls[k][2], l->calls[k][3]).number;
-    sink = f.refusals + sum;
+    sink = f.refusals[0] + sum;
 }
 
 static void in_place_query(const list *l)
@@ -169,7 +169,7 @@ static void proved_enforce(const list *l)
 {
     hv_enforced e = {.facility = l->start};
     for (int k = 0; k < l->n; k++) e = hv_enforce(e.facility, l->calls[k][0], l->calls[k][1], l->calls[k][2], l->calls[k][3]);
-    sink = e.facility.refusals;
+    sink = e.facility.refusals[0];
 }
 
 static void in_place_enforce(const list *l)
@@ -177,14 +177,14 @@ static void in_place_enforce(const list *l)
     hv_facility f = l->start;
     uint32_t sum = 0;
     for (int k = 0; k < l->n; k++) sum += plain_enforce(&f, l->calls[k][0], l->calls[k][1], l->calls[k][2], l->calls[k][3]).number;
-    sink = f.refusals + sum;
+    sink = f.refusals[0] + sum;
 }
 
 static void by_value_enforce(const list *l)
 {
     hv_enforced e = {.facility = l->start};
     for (int k = 0; k < l->n; k++) e = plain_enforce_by_value(e.facility, l->calls[k][0], l->calls[k][1], l->calls[k][2], l->calls[k][3]);
-    sink = e.facility.refusals;
+    sink = e.facility.refusals[0];
 }
 
 /* The proved facility on the whole list in one call: enforce and a line, by value within the library. */

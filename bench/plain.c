@@ -172,12 +172,18 @@ static void act(hv_facility *f, uint8_t request, uint8_t p, uint8_t t, uint8_t e
     }
 }
 
+/* One more refusal of a user; at its stop the counter stays. */
+static inline void count(hv_facility *f, uint8_t user)
+{
+    if (user < HV_USERS && f->refusals[user] != UINT32_MAX) f->refusals[user]++;
+}
+
 static inline hv_outcome enforce(hv_facility *f, uint8_t request, uint8_t p, uint8_t t, uint8_t e)
 {
     struct move m;
     hv_outcome o = judge(f, request, p, t, e, &m);
     if (o.number == HV_ACCEPTED) act(f, request, p, t, e, &m);
-    else if (o.number >= HV_DENIED && f->refusals != UINT32_MAX) f->refusals++;
+    else if (o.number >= HV_DENIED) count(f, f->owners[p]);
     return o;
 }
 

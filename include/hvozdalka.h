@@ -96,7 +96,7 @@ enum hv_marks { HV_OPEN_READING = 1, HV_OPEN_WRITING = 2 };
 /* No object was given. */
 #define HV_NO_OBJECT 255
 
-/* The whole state: switches, users, objects, processes, opens and the counter of refusals. Three bytes before `refusals` are padding. */
+/* The whole state: switches, users, objects, processes, opens and the counters of refusals. Three bytes before `refusals` are padding. */
 typedef struct hv_facility {
     uint8_t mac, fc, sim;                       /* switches, each 0 or 1 */
     uint8_t users;                              /* how many users there are */
@@ -116,7 +116,7 @@ typedef struct hv_facility {
     uint8_t writemarks[HV_PROCESSES];
     uint8_t automatics[HV_PROCESSES];
     uint8_t opens[HV_PROCESSES * HV_OBJECTS];   /* at process * 128 + object */
-    uint32_t refusals;
+    uint32_t refusals[HV_USERS];                /* by user number: calls refused with 12 or 13 of processes that the user owned */
 } hv_facility;
 
 /* What a call came to: refusal number, answers of the modules and their combination, and the object that an accepted create gave (else 255). */
@@ -130,7 +130,7 @@ typedef struct hv_printed { hv_facility facility; size_t length; } hv_printed;
 typedef struct hv_user_record { uint8_t clearance, role, trusted; } hv_user_record;
 typedef struct hv_process_record { uint8_t running, owner, current, readmark, writemark, automatic; } hv_process_record;
 typedef struct hv_object_record { uint8_t live, kind, level, category, datatype; } hv_object_record;
-typedef struct hv_summary_record { uint32_t refusals; uint8_t mac, fc, sim, users, entered; } hv_summary_record;
+typedef struct hv_summary_record { uint8_t mac, fc, sim, users, entered; } hv_summary_record;
 
 /* Reads a set-up. Number 0 and the fresh facility; or the number 14 to 17, the index of the record refused (0 with 14), and the facility of
  * a switches record with all off. [readSetup, rules/Setup] */
@@ -143,7 +143,8 @@ hv_writing hv_write_setup(hv_facility f, uint8_t *out, size_t length);
 /* What hv_enforce would answer; nothing changes. [query, rules/Calls] */
 hv_outcome hv_query(hv_facility f, uint8_t request, uint8_t process, uint8_t target, uint8_t extra);
 
-/* A call: the facility after it, and what it came to. A refused call changes nothing but the counter of refusals. [enforce, rules/Calls] */
+/* A call: the facility after it, and what it came to. A refused call changes nothing but, with 12 and 13, the counter of refusals of the user
+ * who owns the calling process. [enforce, rules/Calls] */
 hv_enforced hv_enforce(hv_facility f, uint8_t request, uint8_t process, uint8_t target, uint8_t extra);
 
 /* The same of a facility where it is, without a copy. After hv_enforce_at the bytes are those of the facility after the call, and the three
@@ -173,7 +174,11 @@ hv_object_record hv_object(hv_facility f, uint8_t object);
 /* How a process has an object open: 1 for reading, 2 for writing, 3 for both, else 0; 0 for a number that is none. [openMarks, hvozdalka/Numbers] */
 uint8_t hv_open_marks(hv_facility f, uint8_t process, uint8_t object);
 
-/* Switches and counters. [summaryOf, hvozdalka/Numbers] */
+/* How many calls were refused with 12 or 13 whose caller the user owned when the call was made, up to 4,294,967,295; 0 for a number that is
+ * none. While no user's is there, the sixteen add up to all 12s and 13s. [refusalsOf, state/State] */
+uint32_t hv_refusals(hv_facility f, uint8_t user);
+
+/* Switches, and how many users there are and objects were entered. [summaryOf, hvozdalka/Numbers] */
 hv_summary_record hv_summary(hv_facility f);
 
 #ifdef __cplusplus

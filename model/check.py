@@ -225,16 +225,21 @@ facility = after(MIXED, IN)
 check(tuple(model.enforce(facility, (READ_OPEN, 0, 0, 0))), (12, 1, 2, 0, 2, 255),
       "MAC's yes, FC's no")
 check((facility.processes[0].current, facility.processes[0].read_mark,
-       facility.refusals), (0, 0, 1), "no move, one refusal")
-facility.refusals = 4294967294
+       facility.refusals), (0, 0, [1] + [0] * 15), "no move, one refusal")
+facility.refusals = [4294967294] * 16
 model.enforce(facility, (READ_OPEN, 0, 0, 0))
-check(facility.refusals, 4294967295, "counter")
+check(facility.refusals, [4294967295] + [4294967294] * 15, "counter")
 model.enforce(facility, (READ_OPEN, 0, 0, 0))
-check(facility.refusals, 4294967295, "counter stays")
+check(facility.refusals, [4294967295] + [4294967294] * 15, "counter stays")
+# Ticket 1: the caller's owner is counted, not the receiver's
+facility = after(switches(1, 0, 0) + user(5) + user(5) + thing(0, 4), (LOGIN, 0, 0, 0), (LOGIN, 1, 0, 1), (READ_OPEN, 0, 0, 0))
+for p, t in ((1, 0), (0, 1), (1, 0)):
+    check(model.enforce(facility, (SEND_SIGNAL, p, t, 0)).number, 12, "signal between levels")
+check(facility.refusals, [1, 2] + [0] * 14, "refusals by user")
 
 
 def everything(facility):
-    return (facility.refusals, [vars(obj).copy() for obj in facility.objects],
+    return (list(facility.refusals), [vars(obj).copy() for obj in facility.objects],
             [p and dict(vars(p.copy())) for p in facility.processes])
 
 

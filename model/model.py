@@ -109,7 +109,7 @@ class Facility:
         self.users = []
         self.objects = []                    # all entered, deleted ones included
         self.processes = [None] * PROCESSES  # None: does not run
-        self.refusals = 0
+        self.refusals = [0] * MAX_USERS      # by user
 
 
 # --- Set-up records: reading ----------------------------------------------
@@ -400,7 +400,9 @@ def enforce(facility, call):
     """Gives the outcome and changes the facility in place."""
     outcome, moved = decide(facility, call)
     if outcome.number in (12, 13):
-        facility.refusals = min(facility.refusals + 1, COUNTER_STOP)
+        # "counted for the owner of the calling process, each with its own stop"
+        owner = facility.processes[call[1]].owner
+        facility.refusals[owner] = min(facility.refusals[owner] + 1, COUNTER_STOP)
     if outcome.number != 0:
         return outcome
     request, p, t, e = call

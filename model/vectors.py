@@ -565,7 +565,8 @@ def expected_lines(number, setup, calls):
     entered = len(facility.objects)
     out = model.setup_bytes(facility)
     weighed = sum((i + 1) * byte for i, byte in enumerate(out)) % 4294967296
-    lines.append("state %d %d %d %d %d" % (len(calls) // 4, facility.refusals, entered, len(out), weighed))
+    refusals = " ".join(str(n) for n in facility.refusals)
+    lines.append("state %d %s %d %d %d" % (len(calls) // 4, refusals, entered, len(out), weighed))
     holds = sum(1 for x in range(entered) for c in range(entered)
                 if account.object_holds(x, c))
     lines.append("matter %d" % holds)

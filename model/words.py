@@ -56,10 +56,14 @@ def sentence(index, facility, call):
     request, p, t, e = call
     before = process_words(facility, p)
     target = target_words(facility, request, t, e)
+    caller = facility.processes[p] if p < model.PROCESSES else None
     outcome = model.enforce(facility, call)
-    return "%d process %d (%s): %s%s: MAC %s, FC %s, SIM %s, combined %s: %d %s; then %s" % (
+    counted = ""
+    if outcome.number in (12, 13):
+        counted = "; refusals of user %d: %d" % (caller.owner, facility.refusals[caller.owner])
+    return "%d process %d (%s): %s%s: MAC %s, FC %s, SIM %s, combined %s: %d %s; then %s%s" % (
         index, p, before, word(REQUESTS, request, "no request"), target, ANSWERS[outcome.mac], ANSWERS[outcome.fc], ANSWERS[outcome.sim],
-        ANSWERS[outcome.combined], outcome.number, NUMBERS[outcome.number], process_words(facility, p))
+        ANSWERS[outcome.combined], outcome.number, NUMBERS[outcome.number], process_words(facility, p), counted)
 
 
 def tell(setup, calls):

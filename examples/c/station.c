@@ -3,10 +3,11 @@
 
 #include "hvozdalka.h"
 
-/* MAC on alone; one untrusted user of clearance 2; the yard folder (level 0), the open notes (level 0), the restricted hull lines (level 2). */
+/* MAC on alone; untrusted users of clearance 2 and 0; the yard folder (level 0), the open notes (level 0), the restricted hull lines (level 2). */
 static const uint8_t setup[] = {
     3, 1, 0, 0, 0, 0, 0, 0,
     1, 2, HV_GENERAL, 0, 0, 0, 0, 0,
+    1, 0, HV_GENERAL, 0, 0, 0, 0, 0,
     2, HV_DIRECTORY, 0, 0, 0, 0, 0, 0,
     2, HV_FILE, 0, 0, 0, 0, 0, 0,
     2, HV_FILE, 2, 0, 0, 0, 0, 0,
@@ -46,6 +47,14 @@ static hv_facility call(hv_facility f, const char *words, uint8_t request, uint8
     return e.facility;
 }
 
+/* The supervisor's table: refusals by user. */
+static void supervisor(hv_facility f)
+{
+    printf("user  clearance  refusals\n");
+    for (uint8_t u = 0; u < hv_summary(f).users; u++)
+        printf("%4d  %9d  %8lu\n", u, hv_user(f, u).clearance, (unsigned long)hv_refusals(f, u));
+}
+
 int main(void)
 {
     hv_reading r = hv_read_setup(setup, sizeof setup);
@@ -59,6 +68,8 @@ int main(void)
     f = call(f, "open the notes for writing", HV_WRITE_OPEN, 0, NOTES, 0);
     f = call(f, "make a file in the yard folder", HV_CREATE, 0, YARD_FOLDER, HV_FILE);
     f = call(f, "read the hull lines", HV_READ, 0, HULL_LINES, 0);
-    printf("refusals counted: %u\n", (unsigned)hv_summary(f).refusals);
+    f = call(f, "login of user 1 at process 1", HV_LOGIN, 1, 0, 1);
+    f = call(f, "user 1 opens the hull lines for reading", HV_READ_OPEN, 1, HULL_LINES, 0);
+    supervisor(f);
     return 0;
 }

@@ -4,7 +4,7 @@
 /// A facility: its bytes are the library's (include/hvozdalka.h names the fields).
 #[repr(C, align(4))]
 #[derive(Clone, Copy)]
-pub struct Facility([u8; 4988]);
+pub struct Facility([u8; 5048]);
 
 #[repr(C)]
 #[derive(Clone, Copy)]
@@ -41,6 +41,7 @@ extern "C" {
     fn hv_query_at(f: *const Facility, request: u8, process: u8, target: u8, extra: u8) -> Outcome;
     fn hv_enforce_at(f: *mut Facility, request: u8, process: u8, target: u8, extra: u8) -> Outcome;
     fn hv_process(f: Facility, process: u8) -> Process;
+    fn hv_refusals(f: Facility, user: u8) -> u32;
 }
 
 const LOGIN: u8 = 21;
@@ -74,6 +75,11 @@ impl Facility {
     pub fn process(&self, process: u8) -> Process {
         unsafe { hv_process(*self, process) }
     }
+
+    /// The calls refused with 12 or 13 whose caller the user owned.
+    pub fn refusals(&self, user: u8) -> u32 {
+        unsafe { hv_refusals(*self, user) }
+    }
 }
 
 fn main() {
@@ -98,4 +104,5 @@ fn main() {
             outcome.number, p.current, p.readmark, p.writemark
         );
     }
+    println!("refusals of user 0: {}", f.refusals(0));
 }

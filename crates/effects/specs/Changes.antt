@@ -10,6 +10,6 @@ use Rattle.rules.specs.declared.View.{View}
 use Rattle.rules.specs.Requests.{actionOf}
 use Rattle.rules.specs.Effects.{changeOf}
 
--- an accepted call changes what its request does, a denied one the counter alone, any other nothing
+-- an accepted call changes what its request does, a denied one the counter of the caller's owner alone, any other nothing
 unfoldable pub changeBy : ℕ → View → Call → Change
-changeBy n v c = cond (eqb n 0) (changeOf (actionOf (c .request)) v c) (cond (denies n) CountRefusal NoChange)
+changeBy n v c = cond (eqb n 0) (changeOf (actionOf (c .request)) v c) (cond (denies n) (CountRefusal (v .caller .owner)) NoChange)

@@ -83,7 +83,7 @@ pub fn change_by(number: u8, v: View, c: Call) -> Change
         return change_of(v, c);
     }
     if answers::is_denial(number) {
-        return Change::CountRefusal;
+        return Change::CountRefusal { u: v.caller.owner };
     }
     Change::NoChange
 }

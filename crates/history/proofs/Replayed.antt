@@ -18,7 +18,7 @@ use Rattle.rules.specs.declared.Action.the-variants.{Login, Clone, SendSignal, 
 use Rattle.rules.specs.declared.View.{View}
 use Rattle.rules.specs.Requests.{inDirectory, openChange, actionOf}
 use Rattle.answers.specs.Outcomes.{denies}
-use Rattle.rules.specs.Calls.{afterRefusal, accepted, after}
+use Rattle.rules.specs.Calls.{ownerIn, afterRefusal, accepted, after}
 use Rattle.rules.specs.Histories.{run}
 use Rattle.rules.specs.Modules.{viewOf}
 use Rattle.rules.specs.Questions.{number}
@@ -56,14 +56,14 @@ effect-mac Create f v c =
 effect-mac OnObject f v c = open-mac (openChange (c .request)) (putProcess f (c .process) _) (c .process) (c .target)
 effect-mac Unknown f v c = refl
 
-refusal-mac : (f : Facility) (n : ℕ) → (afterRefusal f n) .mac ≡ f .mac
+refusal-mac : (f : Facility) (u n : ℕ) → (afterRefusal f u n) .mac ≡ f .mac
 unfolding afterRefusal counted putRefusals
-refusal-mac f n = by-test (denies n) (λ h. rw h) (λ h. rw h)
+refusal-mac f u n = by-test (denies n) (λ h. rw h) (λ h. rw h)
 
 after-mac : (f : Facility) (c : Call) → (after f c) .mac ≡ f .mac
 unfolding after
 after-mac f c =
-    by-test (accepted f c) (λ h. rw h (effect-mac (actionOf (c .request)) f (viewOf f c) c)) (λ h. rw h (refusal-mac f (number f c)))
+    by-test (accepted f c) (λ h. rw h (effect-mac (actionOf (c .request)) f (viewOf f c) c)) (λ h. rw h (refusal-mac f (ownerIn f c) (number f c)))
 
 run-mac : (cs : List Call) (f : Facility) → (run f cs) .mac ≡ f .mac
 unfolding run

@@ -43,9 +43,9 @@ readingNumbers r = record { facility = r .facility; number = setupNumber (r .out
 abbrev pub writingNumbers : WriteOutcome → SetupWriting
 writingNumbers w = record { length = writeLength w; number = writeNumber w }
 
--- switches and counters
+-- switches and counts
 abbrev pub summaryOf : Facility → Summary
-summaryOf f = record { refusals = f .refusals; mac = f .mac; fc = f .fc; sim = f .sim; users = f .users; entered = f .entered }
+summaryOf f = record { mac = f .mac; fc = f .fc; sim = f .sim; users = f .users; entered = f .entered }
 
 -- the same from an outcome that is known
 pub reading-is : (r q : Reading) (o : SetupOutcome) → r ≡ q → r .outcome ≡ o

@@ -9,7 +9,7 @@ ghost use Rattle.rules.specs.Calls.{after, enforce, query};
 ghost use Rattle.rules.specs.Lines.{callsOf};
 ghost use Rattle.rules.specs.Matter.{holds};
 ghost use Rattle.rules.specs.Setup.{readSetup, writeSetup};
-ghost use Rattle.state.specs.State.{objectOf, processOf, userOf};
+ghost use Rattle.state.specs.State.{objectOf, processOf, refusalsOf, userOf};
 ghost use Rattle.text.specs.Stored.{Stored};
 use answers::Outcome;
 use answers::SetupOutcome;
@@ -51,10 +51,9 @@ pub struct SetupWriting {
     pub number: u8,
 }
 
-// Switches and counters.
+// Switches, and how many users there are and objects were entered.
 #[repr(C)]
 pub struct Summary {
-    pub refusals: u32,
     pub mac: u8,
     pub fc: u8,
     pub sim: u8,
@@ -273,13 +272,20 @@ pub extern "C" fn hv_open_marks(f: Facility, p: u8, t: u8) -> u8
     opens::add_modes(marks, 0)
 }
 
-// Switches and counters.
+// The calls refused with 12 or 13 whose caller a user owned; 0 where there is no such user.
+#[no_mangle]
+pub extern "C" fn hv_refusals(f: Facility, u: u8) -> u32
+    ensures { λ r. ⌜ r ≡ refusalsOf f u ⌝ }
+{
+    labels::word_at(&f.refusals, u as usize)
+}
+
+// Switches and counts.
 #[no_mangle]
 pub extern "C" fn hv_summary(f: Facility) -> Summary
     ensures { λ r. ⌜ r ≡ summaryOf f ⌝ }
 {
     Summary {
-        refusals: f.refusals,
         mac: f.mac,
         fc: f.fc,
         sim: f.sim,

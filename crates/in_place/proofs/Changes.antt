@@ -8,13 +8,16 @@ use native.Mathlib.Omega.{arith}
 use borrow.Author.Tests.{lt-ltb, le-ltb}
 use Rattle.state.specs.declared.Process.{Process}
 use Rattle.state.specs.State.{putProcess, putOpens, changed, noProcess, terminated, processOf, cloned, dropObject, deleted, usersIn, objectsFrom}
-use Rattle.state.specs.State.{processesIn, with, putObject, addObject, putRefusals, mostRefusals, counted}
+use Rattle.state.specs.State.{processesIn, with, putObject, addObject, putRefusals, mostRefusals, mostUsers, refusalsOf, counted}
 use Rattle.in_place.specs.Layout.{fieldOf, facilityOf, facilityAt}
 use Rattle.in_place.specs.Layout.{size, offset, theOpens, wholeSize, theLives, theCategories, theDatatypes, theKinds, theLevels}
-use Rattle.in_place.specs.Layout.{theEntered, fourBytes, theRefusals}
+use Rattle.in_place.specs.Layout.{theEntered, theRefusals, words}
 use Rattle.in_place.specs.Stores.{storeField, storeIn, Becomes, storeProcess, storeObject, paddingIn}
 use Rattle.state.specs.declared.Facility.{Facility}
 use Rattle.in_place.proofs.Stores.{stored}
+use Rattle.opens.specs.Laws.Loops.{puts, puts-none, puts-more, puts-whole}
+use Rattle.in_place.proofs.Words.{words-stored, words-length}
+use Rattle.state.specs.Laws.ReadBack.{counted-stays, counted-none}
 use Rattle.opens.specs.Opens.{mostOpens, mostObjects, closeProcess, copyProcess, closeObject}
 use Rattle.state.specs.declared.Change.{Change}
 use Rattle.labels.specs.Decisions.{at}
@@ -108,32 +111,50 @@ full-is s o n e b =
     let w : mostObjects ≤ at (fieldOf s theEntered) 0 = omega arith in
     rw (le-ltb (at (fieldOf s theEntered) 0) mostObjects w)
 
--- the counter
-four-set : (l : List ℕ) (a b c d : ℕ) → length l ≡ 4 → fourBytes (set (set (set (set l 0 a) 1 b) 2 c) 3 d) ≡ a + 256 * b + 65536 * c + 16777216 * d
-four-set [] a b c d h = absurd (omega arith)
-four-set (w ∷ []) a b c d h = absurd (omega arith)
-four-set (w ∷ x ∷ []) a b c d h = absurd (omega arith)
-four-set (w ∷ x ∷ y ∷ []) a b c d h = absurd (omega arith)
-four-set (w ∷ x ∷ y ∷ z ∷ []) a b c d h = refl
-four-set (w ∷ x ∷ y ∷ z ∷ u ∷ l) a b c d h = absurd (omega arith)
-
-pub refusals-put : (s m : List ℕ) (a b c d n : ℕ) → length s ≡ wholeSize → fieldOf m ≡ storeField
-    (storeField (storeField (storeField (fieldOf s) theRefusals 0 a) theRefusals 1 b) theRefusals 2 c) theRefusals 3 d
-    → a + 256 * b + 65536 * c + 16777216 * d ≡ n → facilityAt m ≡ putRefusals (facilityAt s) n
+-- the counters
+pub refusals-put : (s m : List ℕ) (u a b c d n : ℕ) → length s ≡ wholeSize → u < mostUsers → fieldOf m ≡ storeField
+    (storeField (storeField (storeField (fieldOf s) theRefusals (4 * u) a) theRefusals (4 * u + 1) b) theRefusals (4 * u + 2) c) theRefusals (4 * u + 3) d
+    → a + 256 * b + 65536 * c + 16777216 * d ≡ n → facilityAt m ≡ putRefusals (facilityAt s) (set (facilityAt s .refusals) u n)
 unfolding facilityAt putRefusals
-refusals-put s m a b c d n l e h =
+refusals-put s m u a b c d n l v e h =
     ap (λ (g : ℕ → List ℕ). facilityOf g) e
-    ∙ ap (putRefusals (facilityOf (fieldOf s))) (four-set (fieldOf s theRefusals) a b c d (field-length s theRefusals (omega arith)) ∙ h)
+    ∙ ap (putRefusals (facilityOf (fieldOf s))) (words-stored (fieldOf s theRefusals) u a b c d n (field-length s theRefusals (omega arith)) v h)
 
-pub counted-is : (s m : List ℕ) (n : ℕ) → n ≡ facilityAt s .refusals → n < mostRefusals → facilityAt m ≡ putRefusals (facilityAt s) (n + 1)
-    → facilityAt m ≡ counted (facilityAt s)
+pub counted-is : (s m : List ℕ) (u n : ℕ) → n ≡ refusalsOf (facilityAt s) u → n < mostRefusals
+    → facilityAt m ≡ putRefusals (facilityAt s) (set (facilityAt s .refusals) u (n + 1)) → facilityAt m ≡ counted (facilityAt s) u
 unfolding counted
-counted-is s m n e b h =
-    let w : facilityAt s .refusals < mostRefusals = omega arith in
-    h ∙ ap (λ (k : ℕ). putRefusals (facilityAt s) (k + 1)) e ∙ rw (lt-ltb (facilityAt s .refusals) mostRefusals w)
+counted-is s m u n e b h =
+    let w : refusalsOf (facilityAt s) u < mostRefusals = omega arith in
+    h ∙ ap (λ (k : ℕ). putRefusals (facilityAt s) (set (facilityAt s .refusals) u (k + 1))) e ∙ rw (lt-ltb (refusalsOf (facilityAt s) u) mostRefusals w)
 
-pub stays-is : (s : List ℕ) (n : ℕ) → n ≡ facilityAt s .refusals → mostRefusals ≤ n → facilityAt s ≡ counted (facilityAt s)
-unfolding counted facilityAt putRefusals
-stays-is s n e b =
-    let w : mostRefusals ≤ fourBytes (fieldOf s theRefusals) = omega arith in
-    rw (le-ltb (fourBytes (fieldOf s theRefusals)) mostRefusals w)
+pub stays-is : (s : List ℕ) (u n : ℕ) → n ≡ refusalsOf (facilityAt s) u → mostRefusals ≤ n → facilityAt s ≡ counted (facilityAt s) u
+stays-is s u n e b = sym (counted-stays (facilityAt s) u (omega arith))
+
+pub none-is : (s : List ℕ) (u : ℕ) → mostUsers ≤ u → facilityAt s ≡ counted (facilityAt s) u
+unfolding facilityAt
+none-is s u h = sym (counted-none (facilityAt s) u (words-length (fieldOf s theRefusals)) h)
+
+-- the counters of all users, one after the other
+pub counters-first : (s : List ℕ) (v : ℕ → ℕ) → Becomes s s (putRefusals (facilityAt s) (puts (facilityAt s .refusals) (λ j. j) v 0))
+unfolding putRefusals
+counters-first s v = (ap (putRefusals (facilityAt s)) (puts-none (facilityAt s .refusals) (λ j. j) v), refl)
+
+pub counters-more : (s m q : List ℕ) (v : ℕ → ℕ) (u : ℕ)
+    → Becomes s m (putRefusals (facilityAt s) (puts (facilityAt s .refusals) (λ j. j) v u))
+    → Becomes m q (putRefusals (facilityAt m) (set (facilityAt m .refusals) u (v u)))
+    → Becomes s q (putRefusals (facilityAt s) (puts (facilityAt s .refusals) (λ j. j) v (u + 1)))
+unfolding putRefusals
+counters-more s m q v u a b =
+    let l = puts (facilityAt s .refusals) (λ j. j) v u in
+    let t = becomes-then s m q (putRefusals (facilityAt s) l) (λ x. putRefusals x (set (x .refusals) u (v u))) a b in
+    (t .0 ∙ ap (putRefusals (facilityAt s)) (puts-more (facilityAt s .refusals) l (λ j. j) v u refl), t .1)
+
+pub counters-whole : (s m l : List ℕ) (n : ℕ) → length l ≡ mostUsers → n ≡ mostUsers
+    → Becomes s m (putRefusals (facilityAt s) (puts (facilityAt s .refusals) (λ j. j) (at l) n)) → Becomes s m (putRefusals (facilityAt s) l)
+unfolding facilityAt
+counters-whole s m l n e h b =
+    let w : length (words (fieldOf s theRefusals)) ≡ length l = words-length (fieldOf s theRefusals) ∙ sym e in (
+      b .0 ∙ ap (λ (k : ℕ). putRefusals (facilityAt s) (puts (facilityAt s .refusals) (λ j. j) (at l) k)) (h ∙ sym e)
+          ∙ ap (putRefusals (facilityAt s)) (puts-whole (facilityAt s .refusals) l w),
+      b .1,
+    )

@@ -10,12 +10,13 @@ use native.Mathlib.Omega.{arith}
 use borrow.Author.Tests.{eq-eqb, ne-eqb, ltb-true, ltb-false}
 use Rattle.labels.specs.Laws.Decisions.{by-eq, by-test}
 use Rattle.in_place.specs.Stores.{storeField, storeIn, Becomes, paddingIn}
-use Rattle.in_place.specs.Layout.{size, offset, fieldOf, wholeSize, theRefusals, fourBytes, facilityAt, theMac, theFc, theSim, theUsers, theEntered}
+use Rattle.in_place.specs.Layout.{size, offset, fieldOf, wholeSize, theRefusals, facilityAt, theMac, theFc, theSim, theUsers, theEntered}
 use Rattle.in_place.specs.Layout.{facilityOf, theOpens, thePadding, lastField, theClearances, theRoles, theTrusts, theLives, theKinds, theLevels}
 use Rattle.in_place.specs.Layout.{theCategories, theDatatypes, theRunnings, theOwners, theCurrents, theReadmarks, theWritemarks, theAutomatics}
 use Rattle.in_place.proofs.Stores.{store-inside, stored, before, length-store}
 use Rattle.in_place.specs.Fields.{Fields, putField, Bytes, BecomesUnique, countsPut, usersPut, objectsPut, processesPut}
 use Rattle.in_place.proofs.Changes.{field-length}
+use Rattle.in_place.proofs.Words.{same-words}
 use Rattle.labels.specs.Decisions.{at}
 use Rattle.in_place.proofs.BytesOfParts.{byte-in, byte-past}
 use Rattle.state.specs.declared.Facility.{Facility}
@@ -95,26 +96,6 @@ one-byte (x ∷ []) [] h k e = absurd (omega arith)
 one-byte (x ∷ []) (y ∷ z ∷ r) h k e = absurd (omega arith)
 one-byte (x ∷ []) (y ∷ []) h k e = ap (λ (v : ℕ). v ∷ []) e
 
-four-bytes : (a b c d x y z w : ℕ) → a < 256 → b < 256 → c < 256 → x < 256 → y < 256 → z < 256
-    → a + 256 * b + 65536 * c + 16777216 * d ≡ x + 256 * y + 65536 * z + 16777216 * w → (a ≡ x) × (b ≡ y) × (c ≡ z) × (d ≡ w)
-four-bytes a b c d x y z w ha hb hc hx hy hz e = (omega arith, omega arith, omega arith, omega arith)
-
--- the counter's bytes
-same-four : (l r : List ℕ) → length l ≡ 4 → length r ≡ 4 → ((i : ℕ) → at l i < 256) → ((i : ℕ) → at r i < 256) → fourBytes l ≡ fourBytes r → l ≡ r
-same-four [] r h k b d e = absurd (omega arith)
-same-four (t ∷ []) r h k b d e = absurd (omega arith)
-same-four (t ∷ u ∷ []) r h k b d e = absurd (omega arith)
-same-four (t ∷ u ∷ v ∷ []) r h k b d e = absurd (omega arith)
-same-four (t ∷ u ∷ v ∷ w ∷ q ∷ l) r h k b d e = absurd (omega arith)
-same-four (t ∷ u ∷ v ∷ w ∷ []) [] h k b d e = absurd (omega arith)
-same-four (t ∷ u ∷ v ∷ w ∷ []) (x ∷ []) h k b d e = absurd (omega arith)
-same-four (t ∷ u ∷ v ∷ w ∷ []) (x ∷ y ∷ []) h k b d e = absurd (omega arith)
-same-four (t ∷ u ∷ v ∷ w ∷ []) (x ∷ y ∷ z ∷ []) h k b d e = absurd (omega arith)
-same-four (t ∷ u ∷ v ∷ w ∷ []) (x ∷ y ∷ z ∷ p ∷ q ∷ r) h k b d e = absurd (omega arith)
-same-four (t ∷ u ∷ v ∷ w ∷ []) (x ∷ y ∷ z ∷ p ∷ []) h k b d e =
-    let f = four-bytes t u v w x y z p (b 0) (b 1) (b 2) (d 0) (d 1) (d 2) e in
-    λ i. f .0 i ∷ f .1 i ∷ f .2 i ∷ f .3 i ∷ []
-
 -- a byte of a field is a byte
 field-byte : (m : List ℕ) (k i : ℕ) → ((j : ℕ) → at m j < 256) → at (fieldOf m k) i < 256
 field-byte m k i h =
@@ -142,7 +123,7 @@ becomes-unique s m n f a b p q =
     let users = field-of-one m n theUsers la lb (omega arith) refl (ap (λ (x : Facility). x .users) e) in
     let entered = field-of-one m n theEntered la lb (omega arith) refl (ap (λ (x : Facility). x .entered) e) in
     let refusals =
-    same-four (fieldOf m theRefusals) (fieldOf n theRefusals) (field-length m theRefusals (omega arith)) (field-length n theRefusals (omega arith))
+    same-words (fieldOf m theRefusals) (fieldOf n theRefusals) (field-length m theRefusals (omega arith)) (field-length n theRefusals (omega arith))
     (λ i. field-byte m theRefusals i (a .below)) (λ i. field-byte n theRefusals i (b .below)) (ap (λ (x : Facility). x .refusals) e) in
     let t = and-field m n theMac refl mac in
     let t = and-field m n theFc t fc in

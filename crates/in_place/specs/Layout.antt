@@ -3,12 +3,14 @@ use Prim.Native.Nat.{ℕ, zero, suc, _+_, _*_}
 use mathlib.Core.List.{List, [], _∷_}
 use lib.ListN.{take, drop}
 use Rattle.labels.specs.Decisions.{at}
+use Rattle.opens.specs.Opens.{build}
+use Rattle.state.specs.State.{mostUsers}
 use Rattle.state.specs.declared.Facility.{Facility}
 
 -- the sizes of the fields in order; the last but one is padding
 abbrev pub sizes : List ℕ
 sizes =
-    1 ∷ 1 ∷ 1 ∷ 1 ∷ 16 ∷ 16 ∷ 16 ∷ 1 ∷ 128 ∷ 128 ∷ 128 ∷ 128 ∷ 128 ∷ 32 ∷ 32 ∷ 32 ∷ 32 ∷ 32 ∷ 32 ∷ 4096 ∷ 3 ∷ 4 ∷ []
+    1 ∷ 1 ∷ 1 ∷ 1 ∷ 16 ∷ 16 ∷ 16 ∷ 1 ∷ 128 ∷ 128 ∷ 128 ∷ 128 ∷ 128 ∷ 32 ∷ 32 ∷ 32 ∷ 32 ∷ 32 ∷ 32 ∷ 4096 ∷ 3 ∷ 64 ∷ []
 
 abbrev pub size : ℕ → ℕ
 size k = at sizes k
@@ -99,9 +101,12 @@ part s from n = take n (drop from s)
 abbrev pub fieldOf : List ℕ → ℕ → List ℕ
 fieldOf s k = part s (offset k) (size k)
 
--- a number of four bytes, low byte first
-abbrev pub fourBytes : List ℕ → ℕ
-fourBytes l = at l 0 + 256 * at l 1 + 65536 * at l 2 + 16777216 * at l 3
+-- the number of the four bytes from place 4 u on, low byte first; and those of all users
+abbrev pub wordAt : List ℕ → ℕ → ℕ
+wordAt l u = at l (4 * u) + 256 * at l (4 * u + 1) + 65536 * at l (4 * u + 2) + 16777216 * at l (4 * u + 3)
+
+abbrev pub words : List ℕ → List ℕ
+words l = build mostUsers (wordAt l)
 
 -- the facility of fields
 abbrev pub facilityOf : (ℕ → List ℕ) → Facility
@@ -127,7 +132,7 @@ facilityOf g =
       writemarks = g theWritemarks;
       automatics = g theAutomatics;
       opens = g theOpens;
-      refusals = fourBytes (g theRefusals);
+      refusals = words (g theRefusals);
     }
 
 -- the facility of bytes

@@ -1,7 +1,7 @@
 // The facility in the bytes of a C struct, where they are. The `pub` functions are total; the others ask for the length of a facility's bytes.
-ghost use Prim.Native.Nat.{_+_, _≤_};
+ghost use Prim.Native.Nat.{_+_, _<_, _≤_};
 ghost use mathlib.Core.Path.{_≡_};
-ghost use lib.ListN.{length};
+ghost use lib.ListN.{length, set};
 ghost use lib.Seq.{sets};
 ghost use Rattle.in_place.specs.Layout.{facilityAt, fieldOf, part, wholeSize};
 ghost use Rattle.in_place.specs.Stores.{storeObject, Becomes, storeIn};
@@ -14,8 +14,9 @@ ghost use Rattle.rules.specs.Requests.{actionOf};
 ghost use Rattle.labels.specs.Labels.{label};
 ghost use Rattle.labels.specs.Decisions.{at};
 ghost use Rattle.opens.specs.Opens.{closeObject, closeProcess, copyProcess};
-ghost use Rattle.state.specs.State.{addObject, changed, cloned, counted, deleted, objectOf, objectsFrom, openBy, opened, opensOf, processOf};
-ghost use Rattle.state.specs.State.{processesFrom, putMarks, putOpens, putProcess, putRefusals, switchesOf, terminated, userOf, usersFrom};
+ghost use Rattle.state.specs.State.{addObject, changed, cloned, counted, deleted, objectOf, objectsFrom, openBy, opened, opensOf, mostUsers};
+ghost use Rattle.state.specs.State.{processOf, processesFrom, putMarks, putOpens, putProcess, putRefusals, refusalsOf, switchesOf, terminated};
+ghost use Rattle.state.specs.State.{userOf, usersFrom};
 ghost use Rattle.state.specs.Shaped.{ObjectsShaped, ProcessesShaped, UsersShaped};
 use answers::Outcome;
 use labels::Label;
@@ -79,10 +80,12 @@ const AUTOMATICS: u16 = WRITEMARKS + PROCESS_COUNT;
 const OPENS: u16 = AUTOMATICS + PROCESS_COUNT;
 
 const PADDING: u16 = OPENS + opens::PAIRS;
-// Three bytes of padding stand before the counter.
+// Three bytes of padding stand before the counters, which have four bytes each.
 const REFUSALS: u16 = PADDING + 3;
 
-pub const SIZE: usize = (REFUSALS as usize) + 4;
+const COUNTER_BYTES: u16 = 4 * USER_COUNT;
+
+pub const SIZE: usize = (REFUSALS as usize) + (COUNTER_BYTES as usize);
 
 // Byte i of a field, which has n bytes from a place on; 0 where it has no such byte.
 fn byte_in(s: &[u8], from: u16, n: u16, i: u16) -> u8
@@ -349,36 +352,47 @@ fn add_object(s: &mut [u8], o: Object)
     }
 }
 
-// The counter of refusals.
-fn refusals_in(s: &[u8]) -> u32
-    requires { ⌜ length (now s) ≡ wholeSize ⌝ }
-    ensures { λ r. ⌜ r ≡ facilityAt (now (s .entry)) .refusals ⌝ }
+// The counter of user u: four bytes, low byte first.
+fn refusals_in(s: &[u8], u: u16) -> u32
+    requires { ⌜ (length (now s) ≡ wholeSize) × (u < mostUsers) ⌝ }
+    ensures { λ r. ⌜ r ≡ refusalsOf (facilityAt (now (s .entry))) u ⌝ }
 {
-    let b0 = byte_in(s, REFUSALS, 4, 0) as u32;
-    let b1 = byte_in(s, REFUSALS, 4, 1) as u32;
-    let b2 = byte_in(s, REFUSALS, 4, 2) as u32;
-    let b3 = byte_in(s, REFUSALS, 4, 3) as u32;
+    let b0 = byte_in(s, REFUSALS, COUNTER_BYTES, 4 * u) as u32;
+    let b1 = byte_in(s, REFUSALS, COUNTER_BYTES, 4 * u + 1) as u32;
+    let b2 = byte_in(s, REFUSALS, COUNTER_BYTES, 4 * u + 2) as u32;
+    let b3 = byte_in(s, REFUSALS, COUNTER_BYTES, 4 * u + 3) as u32;
     b0 + 256 * b1 + 65536 * b2 + 16777216 * b3
 }
 
-fn put_refusals(s: &mut [u8], n: u32)
-    requires { ⌜ length (now s) ≡ wholeSize ⌝ }
-    ensures { λ x. ⌜ Becomes (now (s .entry)) (now (s .exit)) (putRefusals (facilityAt (now (s .entry))) n) ⌝ }
+fn put_refusals(s: &mut [u8], u: u16, n: u32)
+    requires { ⌜ (length (now s) ≡ wholeSize) × (u < mostUsers) ⌝ }
+    ensures { λ x. ⌜ Becomes (now (s .entry)) (now (s .exit)) (putRefusals (facilityAt (now (s .entry)))
+        (set (facilityAt (now (s .entry)) .refusals) u n)) ⌝ }
 {
-    put_in(s, REFUSALS, 4, 0, (n % 256) as u8);
-    put_in(s, REFUSALS, 4, 1, (n / 256 % 256) as u8);
-    put_in(s, REFUSALS, 4, 2, (n / 65536 % 256) as u8);
-    put_in(s, REFUSALS, 4, 3, (n / 16777216) as u8);
+    put_in(s, REFUSALS, COUNTER_BYTES, 4 * u, (n % 256) as u8);
+    put_in(s, REFUSALS, COUNTER_BYTES, 4 * u + 1, (n / 256 % 256) as u8);
+    put_in(
+        s,
+        REFUSALS,
+        COUNTER_BYTES,
+        4 * u + 2,
+        (n / 65536 % 256) as u8,
+    );
+    put_in(s, REFUSALS, COUNTER_BYTES, 4 * u + 3, (n / 16777216) as u8);
 }
 
-// One more refusal; at its stop the counter stays.
-fn count(s: &mut [u8])
+// One more refusal of user u; at its stop the counter stays, and so do all where there is no such user.
+fn count(s: &mut [u8], u: u8)
     requires { ⌜ length (now s) ≡ wholeSize ⌝ }
-    ensures { λ x. ⌜ Becomes (now (s .entry)) (now (s .exit)) (counted (facilityAt (now (s .entry)))) ⌝ }
+    ensures { λ x. ⌜ Becomes (now (s .entry)) (now (s .exit)) (counted (facilityAt (now (s .entry))) u) ⌝ }
 {
-    let n = refusals_in(s);
+    let i = u as u16;
+    if USER_COUNT <= i {
+        return;
+    }
+    let n = refusals_in(s, i);
     if n < state::MOST_REFUSALS {
-        put_refusals(s, n + 1);
+        put_refusals(s, i, n + 1);
     }
 }
 
@@ -435,7 +449,7 @@ fn make(change: Change, s: &mut [u8])
         Change::UseObject { p, r, t, opens } => use_object(s, p, r, t, opens),
         Change::CreateObject { p, r, o } => create_object(s, p, r, o),
         Change::EnterObject { o } => add_object(s, o),
-        Change::CountRefusal => count(s),
+        Change::CountRefusal { u } => count(s, u),
     }
 }
 
@@ -534,6 +548,18 @@ fn put_processes<'a>(
     put_array(s, AUTOMATICS, automatics);
 }
 
+// The counters of all users.
+fn put_counters(s: &mut [u8], refusals: &[u32])
+    requires { ⌜ (length (now s) ≡ wholeSize) × (length (now refusals) ≡ mostUsers) ⌝ }
+    ensures { λ x. ⌜ Becomes (now (s .entry)) (now (s .exit)) (putRefusals (facilityAt (now (s .entry))) (now (refusals .entry))) ⌝ }
+{
+    let mut u: u16 = 0;
+    while u < USER_COUNT {
+        put_refusals(s, u, refusals[u as usize]);
+        u += 1;
+    }
+}
+
 // The bytes of a facility that is handed in by value.
 fn store(f: Facility, s: &mut [u8])
     requires { ⌜ length (now s) ≡ wholeSize ⌝ }
@@ -559,7 +585,7 @@ fn store(f: Facility, s: &mut [u8])
         &f.automatics,
     );
     put_array(s, OPENS, &f.opens);
-    put_refusals(s, f.refusals);
+    put_counters(s, &f.refusals);
 }
 
 pub fn store_in(f: Facility, s: &mut [u8; SIZE])

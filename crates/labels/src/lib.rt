@@ -70,6 +70,12 @@ pub fn at(array: &[u8], i: usize) -> u8
     if i < array.len() { array[i] } else { 0 }
 }
 
+pub fn word_at(array: &[u32], i: usize) -> u32
+    ensures { λ r. ⌜ r ≡ at (now (array .entry)) i ⌝ }
+{
+    if i < array.len() { array[i] } else { 0 }
+}
+
 // One of the ordered questions: yes goes on to the later ones, no gives the refusal number.
 pub fn ask(yes: bool, number: u8, later: u8) -> u8
     ensures { λ r. ⌜ r ≡ ask yes number later ⌝ }

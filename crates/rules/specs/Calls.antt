@@ -9,7 +9,7 @@ use Rattle.labels.specs.Decisions.{_and_}
 use Rattle.rules.specs.Requests.{actionOf, isCreate}
 use Rattle.answers.specs.Outcomes.{noObject, outcomeOf, denies}
 use Rattle.rules.specs.Modules.{viewOf, answers}
-use Rattle.state.specs.State.{counted}
+use Rattle.state.specs.State.{processOf, counted}
 use Rattle.rules.specs.Effects.{effectBy}
 
 -- number 0 is an accepted call
@@ -24,13 +24,17 @@ objectGiven f c = cond (accepted f c and isCreate (actionOf (c .request))) (f .e
 unfoldable pub query : Facility → Call → Outcome
 query f c = outcomeOf (number f c) (answers (actionOf (c .request)) (viewOf f c) c) (objectGiven f c)
 
--- a refused call: 12 and 13 are counted
-unfoldable pub afterRefusal : Facility → ℕ → Facility
-afterRefusal f n = cond (denies n) (counted f) f
+-- the owner of the calling process, before the call
+abbrev pub ownerIn : Facility → Call → ℕ
+ownerIn f c = (processOf f (c .process)) .owner
+
+-- a refused call: 12 and 13 are counted for user u
+unfoldable pub afterRefusal : Facility → ℕ → ℕ → Facility
+afterRefusal f u n = cond (denies n) (counted f u) f
 
 -- the facility after a call
 unfoldable pub after : Facility → Call → Facility
-after f c = cond (accepted f c) (effectBy (actionOf (c .request)) f c) (afterRefusal f (number f c))
+after f c = cond (accepted f c) (effectBy (actionOf (c .request)) f c) (afterRefusal f (ownerIn f c) (number f c))
 
 abbrev pub enforce : Facility → Call → Enforced
 enforce f c = record { facility = after f c; outcome = query f c }

@@ -5,7 +5,7 @@ use Rattle.rules.specs.Types.{Answer, Answers, Call, Facility}
 use Rattle.labels.specs.Decisions.{_and_, _or_, ask, at}
 use Rattle.answers.specs.Outcomes.{denies, answersFrom, outcomeOf, numberOf, answersOf}
 use Rattle.state.specs.State.{processIn, objectIn, userIn, opensOf, freshProcess, noProcess, blank, putProcess, putOpens, putUser, putObject, addUser}
-use Rattle.state.specs.State.{addObject, dropObject, putRefusals, counted, openBy}
+use Rattle.state.specs.State.{addObject, dropObject, putRefusals, counted, openBy, refusalsOf}
 use Rattle.opens.specs.Opens.{markPlace, reading, writing, addModes}
 use Rattle.labels.specs.Labels.{leq, same, join, meet, bottom, top, given}
 use Rattle.answers.specs.Answers.{code, grant, passes}
@@ -136,6 +136,6 @@ userBytes f u = at (f .clearances) u ∷ at (f .roles) u ∷ at (f .trusts) u �
 abbrev pub openBytes : Facility → ℕ → ℕ → List ℕ
 openBytes f p n = map (λ t. opensOf f p t) (numbersBelow n)
 
--- the switches, the number of users, of objects entered, and of refusals
+-- the switches, the number of users, of objects entered, and of refusals of user 0
 abbrev pub counts : Facility → List ℕ
-counts f = f .mac ∷ f .fc ∷ f .sim ∷ f .users ∷ f .entered ∷ f .refusals ∷ []
+counts f = f .mac ∷ f .fc ∷ f .sim ∷ f .users ∷ f .entered ∷ refusalsOf f 0 ∷ []

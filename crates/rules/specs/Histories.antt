@@ -1,11 +1,13 @@
--- Lists of calls: the facility after one, its outcomes, and of each call whether it was accepted.
+-- Lists of calls: the facility after one, its outcomes, its steps, and of each call whether it was accepted.
 use mathlib.Core.List.{List, [], _∷_}
-use mathlib.Core.Bool.{Bool, false}
+use Prim.Native.Nat.{ℕ}
+use mathlib.Core.Bool.{Bool, false, cond}
+use lib.Dec.{eqb}
 use Rattle.rules.specs.Types.{Call, Facility, Outcome}
 use Rattle.rules.specs.Calls.{after, query, accepted}
 use Rattle.labels.specs.Decisions.{_and_, _or_}
 use Rattle.state.specs.State.{trustedUser}
-use Rattle.rules.specs.Requests.{actionOf, isLogin}
+use Rattle.rules.specs.Requests.{actionOf, isLogin, isClone}
 
 -- the facility after a list of calls: each gets the facility that the call before it returned
 unfoldable pub run : Facility → List Call → Facility
@@ -16,6 +18,29 @@ run f (c ∷ cs) = run (after f c) cs
 unfoldable pub outcomes : Facility → List Call → List Outcome
 outcomes f [] = []
 outcomes f (c ∷ cs) = query f c ∷ outcomes (after f c) cs
+
+-- a call of a list with the facility that it was given
+pub record Step : Type 0 where
+  pub before : Facility
+  pub call : Call
+
+-- the steps of a list of calls from f, the latest first, and behind them the earlier steps xs
+unfoldable pub past : Facility → List Call → List Step → List Step
+past f [] xs = xs
+past f (c ∷ cs) xs = past (after f c) cs (record { before = f; call = c } ∷ xs)
+
+-- whether a step is the login that begins process p, and the cloning that makes process p
+unfoldable pub isStart : Step → ℕ → Bool
+isStart x p = accepted (x .before) (x .call) and isLogin (actionOf (x .call .request)) and eqb (x .call .process) p
+
+unfoldable pub isCloning : Step → ℕ → Bool
+isCloning x p = accepted (x .before) (x .call) and isClone (actionOf (x .call .request)) and eqb (x .call .target) p
+
+-- the user who owns process p after a history: who logged in there last, and of a clone who owned its parent then
+unfoldable pub ownerAfter : List Step → ℕ → ℕ
+ownerAfter [] p = 0
+ownerAfter (x ∷ xs) p =
+    cond (isStart x p) (x .call .extra) (cond (isCloning x p) (ownerAfter xs (x .call .process)) (ownerAfter xs p))
 
 -- a trusted login is an accepted login of a trusted user; whether a list has one
 unfoldable pub trustedLogin : Facility → Call → Bool

@@ -1,6 +1,6 @@
 -- Demands 1 and 2 as statements over the definitions. Each is proved in the module of Proofs/ that its comment names.
 use Rattle.answers.specs.declared.Outcome.the-variants.{Refused}
-use Prim.Native.Nat.{ℕ, zero, suc, _+_, _≤_, min}
+use Prim.Native.Nat.{ℕ, zero, suc, _+_, _≤_, _<_, min}
 use mathlib.Core.Path.{_≡_}
 use mathlib.Core.Bool.{true, false, not, cond}
 use mathlib.Core.List.{List, [], _∷_}
@@ -10,9 +10,9 @@ use Rattle.rules.specs.Types.{Outcome, Call, Facility}
 use Rattle.labels.specs.Decisions.{_and_, asked, on}
 use Rattle.answers.specs.Outcomes.{denies, numberOf, objectNumberOf}
 use Rattle.opens.specs.Opens.{mostObjects}
-use Rattle.state.specs.State.{mostRefusals, switchesOf, putRefusals, counted}
+use Rattle.state.specs.State.{mostUsers, mostRefusals, switchesOf, processOf, refusalsOf, putRefusals, counted}
 use Rattle.rules.specs.Calls.{accepted, query, after, enforce}
-use Rattle.rules.specs.Histories.{run, outcomes}
+use Rattle.rules.specs.Histories.{run, outcomes, Step, past, ownerAfter}
 use Rattle.rules.specs.Requests.{Action, lastRequest, actionOf, isAbsent, isNoCondition, isLogin, isCreate, needsObject}
 use Rattle.rules.specs.Setup.{fresh, acceptedSetup, usersOf, liveObjects, setupBytes}
 use Rattle.rules.specs.Modules.{View, classIn}
@@ -20,13 +20,13 @@ use Rattle.rules.specs.Questions.{runsOf, inRange, isRunning, isFree, op
 
 -- Demand 1 (Proofs/Refusals): what a call that is not accepted leaves, and that query gives what enforce would.
 pub record Refusals : Type 0 where
-  -- everything but the counter is as it was
+  -- everything but the counters is as it was
   pub unchanged : (f : Facility) (c : Call) → accepted f c ≡ false → after f c ≡ putRefusals f (after f c .refusals)
-  -- refusals but 12 and 13 leave the counter too, and come with four not-cared answers and object 255
+  -- refusals but 12 and 13 leave the counters too, and come with four not-cared answers and object 255
   pub uncounted : (f : Facility) (c : Call) → accepted f c ≡ false → denies (number f c) ≡ false → after f c ≡ f
   pub unasked : (f : Facility) (c : Call) → accepted f c ≡ false → denies (number f c) ≡ false → query f c ≡ Refused (number f c)
-  -- 12 and 13 are counted, and there is no larger number
-  pub counts : (f : Facility) (c : Call) → denies (number f c) ≡ true → after f c ≡ counted f
+  -- 12 and 13 are counted, for the owner of the calling process alone, and there is no larger number
+  pub counts : (f : Facility) (c : Call) → denies (number f c) ≡ true → after f c ≡ counted f ((processOf f (c .process)) .owner)
   pub largest : (f : Facility) (c : Call) → number f c ≤ 13
   -- the outcome has the call's number, and query's is enforce's
   pub numbered : (f : Facility) (c : Call) → numberOf (query f c) ≡ number f c
@@ -37,10 +37,27 @@ unfoldable pub denialsIn : List Outcome → ℕ
 denialsIn [] = 0
 denialsIn (o ∷ os) = cond (denies (numberOf o)) 1 0 + denialsIn os
 
--- The counter (Proofs/Counter): after every list from a fresh facility it is the number of 12s and 13s, up to its stop.
-abbrev pub CounterCounts : Type 0
-CounterCounts =
-    (s : List ℕ) (cs : List Call) → run (fresh s) cs .refusals ≡ min (denialsIn (outcomes (fresh s) cs)) mostRefusals
+-- how many steps of a history were refused with 12 or 13 when their caller was owned by user u; the owner is told by the earlier steps
+unfoldable pub denialsOf : ℕ → List Step → ℕ
+denialsOf u [] = 0
+denialsOf u (x ∷ xs) =
+    cond (denies (numberOf (query (x .before) (x .call))) and eqb (ownerAfter xs (x .call .process)) u) 1 0 + denialsOf u xs
+
+-- g 0 + g 1 + .. of the first n
+unfoldable pub sumTo : ℕ → (ℕ → ℕ) → ℕ
+sumTo zero g = 0
+sumTo (suc n) g = sumTo n g + g n
+
+-- Ticket 1, refusals by user (Proofs/Counters), after every list from a fresh facility.
+pub record CountersCount : Type 0 where
+  -- each user's counter is the number of 12s and 13s of calls whose caller that user owned, up to its own stop
+  pub each : (s : List ℕ) (cs : List Call) (u : ℕ) → u < mostUsers
+      → refusalsOf (run (fresh s) cs) u ≡ min (denialsOf u (past (fresh s) cs [])) mostRefusals
+  -- while none is at its stop, the sixteen add up to the 12s and 13s of the history
+  pub total : (s : List ℕ) (cs : List Call) → ((u : ℕ) → u < mostUsers → refusalsOf (run (fresh s) cs) u < mostRefusals)
+      → sumTo mostUsers (refusalsOf (run (fresh s) cs)) ≡ denialsIn (outcomes (fresh s) cs)
+  -- there are sixteen
+  pub sixteen : (s : List ℕ) (cs : List Call) → length (run (fresh s) cs .refusals) ≡ mostUsers
 
 -- the numbers that the accepted creates of a list return, in order
 unfoldable pub numbersGiven : Facility → List Call → List ℕ

@@ -20,6 +20,7 @@ pub mod Kept
 pub mod Witness
 pub mod ExactlyWhen
 pub mod Refusals
-pub mod Counter
+pub mod Owners
+pub mod Counters
 pub mod ObjectNumbers
 pub mod RoundTrips

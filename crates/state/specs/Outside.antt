@@ -1,8 +1,8 @@
--- Numbers that are none: no process has a number above 31, no object one above 127. Nothing is open there, and nothing changes.
+-- Numbers that are none: no process has a number above 31, no object one above 127, no user one above 15. Nothing is open there, and nothing changes.
 use Prim.Native.Nat.{ℕ, _≤_, _<_}
 use mathlib.Core.Path.{_≡_}
 use mathlib.Core.Logic.{_≢_}
-use Rattle.state.specs.State.{Facility, Process, opensOf, putProcess, putMarks, cloned, deleted, terminated}
+use Rattle.state.specs.State.{Facility, Process, mostUsers, counted, opensOf, putProcess, putMarks, cloned, deleted, terminated}
 use Rattle.opens.specs.Opens.{mostProcesses, mostObjects}
 
 pub record Outside (f : Facility) : Type 0 where
@@ -16,6 +16,8 @@ pub record Outside (f : Facility) : Type 0 where
   pub deleting : (t : ℕ) → mostObjects ≤ t → deleted f t ≡ f
   pub markingObject : (p t v : ℕ) → mostObjects ≤ t → putMarks f p t v ≡ f
   pub closedObject : (p t : ℕ) → mostObjects ≤ t → opensOf f p t ≡ 0
+  -- a user number above 15
+  pub counting : (u : ℕ) → mostUsers ≤ u → counted f u ≡ f
 
 -- the marks that were put are read back, and no other pair's are touched
 pub record OnePair (f : Facility) : Type 0 where

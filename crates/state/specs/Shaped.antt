@@ -30,3 +30,4 @@ pub record Shaped (f : Facility) : Type 0 where
   pub objects : ObjectsShaped (objectsIn f)
   pub processes : ProcessesShaped (processesIn f)
   pub opens : length (f .opens) ≡ mostOpens
+  pub refusals : length (f .refusals) ≡ mostUsers

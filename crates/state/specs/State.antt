@@ -23,7 +23,7 @@ use Rattle.opens.specs.Opens.{markPlace, mostObjects, copyProcess, marksAfter, 
 abbrev pub mostUsers : ℕ
 mostUsers = 16
 
--- where the counter of refusals stops
+-- where each counter of refusals stops
 abbrev pub mostRefusals : ℕ
 mostRefusals = 4294967295
 
@@ -134,11 +134,15 @@ clearanceOf f u = (userOf f u) .clearance
 abbrev pub isAutomatic : Process → Bool
 isAutomatic r = on (r .automatic)
 
+-- how many calls were refused with 12 or 13 whose caller user u owned
+abbrev pub refusalsOf : Facility → ℕ → ℕ
+refusalsOf f u = at (f .refusals) u
+
 unfoldable pub opensOf : Facility → ℕ → ℕ → ℕ
 opensOf f p t = at (f .opens) (markPlace p t)
 
 -- the facility with f's switches, and these counts and parts
-abbrev pub with : Facility → ℕ → Users → ℕ → Objects → Processes → List ℕ → ℕ → Facility
+abbrev pub with : Facility → ℕ → Users → ℕ → Objects → Processes → List ℕ → List ℕ → Facility
 with f users us entered os ps opens refusals =
     record {
       mac = f .mac;
@@ -164,7 +168,7 @@ with f users us entered os ps opens refusals =
       refusals = refusals;
     }
 
--- The ways in which a facility changes: a process, the opens, a new user, a new object, a dropped object, the counter.
+-- The ways in which a facility changes: a process, the opens, a new user, a new object, a dropped object, the counters.
 unfoldable pub putProcess : Facility → ℕ → Process → Facility
 putProcess f p r =
     with f (f .users) (usersIn f) (f .entered) (objectsIn f)
@@ -220,15 +224,15 @@ dropObject f t =
     (objectsFrom (set (f .lives) t 0) (f .kinds) (f .levels) (f .categories) (f .datatypes))
     (processesIn f) (f .opens) (f .refusals)
 
-unfoldable pub putRefusals : Facility → ℕ → Facility
-putRefusals f n = with f (f .users) (usersIn f) (f .entered) (objectsIn f) (processesIn f) (f .opens) n
+unfoldable pub putRefusals : Facility → List ℕ → Facility
+putRefusals f l = with f (f .users) (usersIn f) (f .entered) (objectsIn f) (processesIn f) (f .opens) l
 
--- one more refusal; at its stop the counter stays
+-- one more refusal of user u; at its stop the user's counter stays
 abbrev pub oneMore : ℕ → ℕ
 oneMore n = cond (ltb n mostRefusals) (n + 1) n
 
-unfoldable pub counted : Facility → Facility
-counted f = putRefusals f (oneMore (f .refusals))
+unfoldable pub counted : Facility → ℕ → Facility
+counted f u = putRefusals f (set (f .refusals) u (oneMore (refusalsOf f u)))
 
 -- login: current 0, read mark 0, write mark 15, automatic on
 unfoldable pub freshProcess : ℕ → Process
@@ -288,7 +292,7 @@ changed f (EndProcess p) = terminated f p
 changed f (UseObject p r t o) = openBy o (putProcess f p r) p t
 changed f (CreateObject p r o) = addObject (putProcess f p r) o
 changed f (EnterObject o) = addObject f o
-changed f CountRefusal = counted f
+changed f (CountRefusal u) = counted f u
 
 -- with these switches: no user, no object, no process, no refusal
 unfoldable pub blank : Switches → Facility
@@ -314,5 +318,5 @@ blank s =
       writemarks = replicate mostProcesses 0;
       automatics = replicate mostProcesses 0;
       opens = replicate mostOpens 0;
-      refusals = 0;
+      refusals = replicate mostUsers 0;
     }

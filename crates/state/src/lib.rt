@@ -1,7 +1,8 @@
 // The state: processes, users, objects and the facility that holds them, with its methods by value.
 ghost use mathlib.Core.Path.{_≡_};
 ghost use Rattle.state.specs.State.{addObject, addUser, allOff, blank, changed, cloned, closed, counted, deleted, freshProcess, marked};
-ghost use Rattle.state.specs.State.{noProcess, objectIn, objectOf, objectsFrom, openBy, opened, processIn, processOf, processesFrom, putOpens, putProcess, terminated};
+ghost use Rattle.state.specs.State.{noProcess, objectIn, objectOf, objectsFrom, openBy, opened, processIn, processOf, processesFrom, putOpens};
+ghost use Rattle.state.specs.State.{putProcess, terminated};
 ghost use Rattle.state.specs.State.{userIn, userOf, usersFrom};
 ghost use Rattle.labels.specs.Decisions.{at};
 ghost use Rattle.labels.specs.Labels.{label};
@@ -18,7 +19,7 @@ pub const OBJECTS: usize = opens::OBJECTS as usize;
 
 pub const PAIRS: usize = opens::PAIRS as usize;
 
-// Where the counter of refusals stops.
+// Where each counter of refusals stops.
 pub const MOST_REFUSALS: u32 = 4294967295;
 
 // A call: four bytes.
@@ -98,8 +99,10 @@ pub enum Change {
     EnterObject {
         o: Object,
     },
-    // One more refusal is counted.
-    CountRefusal,
+    // One more refusal is counted for user u.
+    CountRefusal {
+        u: u8,
+    },
 }
 
 #[repr(C)]
@@ -129,8 +132,8 @@ pub struct Facility {
     pub automatics: [u8; PROCESSES],
     // At process * 128 + object: bit 0 open for reading, bit 1 open for writing.
     pub opens: [u8; PAIRS],
-    // Calls refused with 12 or 13, up to 4,294,967,295.
-    pub refusals: u32,
+    // Calls refused with 12 or 13, by user: the owner of the calling process. Each up to 4,294,967,295.
+    pub refusals: [u32; USERS],
 }
 
 impl Process {
@@ -289,7 +292,7 @@ impl Facility {
             writemarks: [0; PROCESSES],
             automatics: [0; PROCESSES],
             opens: [0; PAIRS],
-            refusals: 0,
+            refusals: [0; USERS],
         }
     }
 
@@ -449,13 +452,16 @@ impl Facility {
         self
     }
 
-    // One more refusal; at its stop the counter stays.
-    pub fn counted(mut self) -> Facility
-        ensures { λ x. ⌜ x ≡ counted self ⌝ }
+    // One more refusal of a user; at its stop the user's counter stays.
+    pub fn counted(mut self, u: u8) -> Facility
+        ensures { λ x. ⌜ x ≡ counted self u ⌝ }
     {
-        let n = self.refusals;
-        if n < MOST_REFUSALS {
-            self.refusals = n + 1;
+        let k = u as usize;
+        if k < USERS {
+            let n = self.refusals[k];
+            if n < MOST_REFUSALS {
+                self.refusals[k] = n + 1;
+            }
         }
         self
     }
@@ -484,7 +490,7 @@ impl Facility {
             Change::UseObject { p, r, t, opens } => self.used(p, r, t, opens),
             Change::CreateObject { p, r, o } => self.with_process(p, r).with_object(o),
             Change::EnterObject { o } => self.with_object(o),
-            Change::CountRefusal => self.counted(),
+            Change::CountRefusal { u } => self.counted(u),
         }
     }
 }

@@ -1,7 +1,7 @@
 // Cases from standard input: a set-up behind its length in two bytes, then calls behind theirs in four, low byte first. Of a refused set-up
 // its line. Of an accepted one: what it gives written out into a buffer of its length and into one a byte shorter, and a line `touched` where
 // a byte that is to stay does not; the lines of the run program; of how many calls query says what enforce does, in number, answers and object
-// number, and of what replay returns the counter of refusals, the objects entered, and the length and a sum of the bytes of the set-up written
+// number, and of what replay returns the sixteen counters of refusals, the objects entered, and the length and a sum of the bytes of the set-up written
 // out; then how many pairs of objects the account has of which the first holds the matter of the second.
 ghost use Prim.Native.Nat.{_≤_};
 use answers::Answers;
@@ -179,10 +179,19 @@ fn show_written(f: Facility, out: &mut [u8]) {
     }
 }
 
+// The counters of refusals, by user.
+fn show_refusals(refusals: &[u32]) {
+    let mut u: usize = 0;
+    while u < state::USERS {
+        show(labels::word_at(refusals, u) as u64, b' ');
+        u += 1;
+    }
+}
+
 fn show_state(f: Facility, agreed: u64) {
     io::write_all(STDOUT_FILENO, b"state ");
     show(agreed, b' ');
-    show(f.refusals as u64, b' ');
+    show_refusals(&f.refusals);
     show(f.entered as u64, b' ');
     let mut out = io::buffer();
     show_written(f, &mut out);

@@ -10,13 +10,14 @@ use Rattle.state.specs.declared.Process.{Process}
 use Rattle.state.specs.declared.User.{User}
 use Rattle.labels.specs.Decisions.{on}
 use Rattle.answers.specs.Answers.{code}
-use Rattle.answers.specs.Outcomes.{numberOf, answersOf}
+use Rattle.answers.specs.Outcomes.{numberOf, answersOf, denies}
+use Rattle.state.specs.State.{refusalsOf}
 use Rattle.rules.specs.declared.Action.{Action}
 use Rattle.rules.specs.declared.Action.the-variants.{Login, Clone, SendSignal, SetLevel, Terminate, Create, OnObject, Unknown}
 use Rattle.rules.specs.declared.View.{View}
 use Rattle.rules.specs.Requests.{actionOf, inDirectory}
 use Rattle.rules.specs.Modules.{viewOf}
-use Rattle.rules.specs.Calls.{query, after}
+use Rattle.rules.specs.Calls.{query, after, ownerIn}
 use Rattle.rules.specs.Lines.{decimal, lineFeed}
 use Rattle.rules.specs.Text.{ascii}
 use Rattle.words.specs.Patterns.{filled}
@@ -62,14 +63,19 @@ outcomeText o =
     filled (ascii ": MAC ', FC ', SIM ', combined ': # !; then ")
     (code (a .mac) ∷ code (a .fc) ∷ code (a .sim) ∷ code (a .combined) ∷ numberOf o ∷ numberOf o ∷ [])
 
--- the line of call c, the i-th, which looks at v, comes to o, and would look at w after it
-abbrev pub sentenceText : ℕ → Call → View → Outcome → View → List ℕ
-sentenceText i c v o w =
-    beforeText i c v ++ targetText (actionOf (c .request)) c (v .target .object) ++ outcomeText o ++ processText (w .caller) (w .owner) ++ (lineFeed ∷ [])
+-- after a denial, how many refusals of the caller's owner are counted
+abbrev pub countText : Outcome → View → ℕ → List ℕ
+countText o v n = cond (denies (numberOf o)) (filled (ascii "; refusals of user #: ") (v .caller .owner ∷ []) ++ decimal n) []
+
+-- the line of call c, the i-th, which looks at v, comes to o, and would look at w after it; n is then the counter of the caller's owner
+abbrev pub sentenceText : ℕ → Call → View → Outcome → View → ℕ → List ℕ
+sentenceText i c v o w n =
+    beforeText i c v ++ targetText (actionOf (c .request)) c (v .target .object) ++ outcomeText o ++ processText (w .caller) (w .owner) ++ countText o v n
+    ++ (lineFeed ∷ [])
 
 -- the line of call c, the i-th, enforced on f
 unfoldable pub sentence : ℕ → Facility → Call → List ℕ
-sentence i f c = sentenceText i c (viewOf f c) (query f c) (viewOf (after f c) c)
+sentence i f c = sentenceText i c (viewOf f c) (query f c) (viewOf (after f c) c) (refusalsOf (after f c) (ownerIn f c))
 
 -- a refused set-up
 unfoldable pub setupSentence : ℕ → ℕ → List ℕ

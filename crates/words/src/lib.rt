@@ -9,7 +9,7 @@ ghost use Rattle.rules.specs.Calls.{after};
 ghost use Rattle.rules.specs.Requests.{actionOf};
 ghost use Rattle.text.specs.Stored.{Stored};
 ghost use Rattle.words.specs.Patterns.{filled, said, signs};
-ghost use Rattle.words.specs.Sentences.{beforeText, createText, objectText, outcomeText, processText, sentence, sentenceText, setupSentence};
+ghost use Rattle.words.specs.Sentences.{beforeText, countText, createText, objectText, outcomeText, processText, sentence, sentenceText, setupSentence};
 ghost use Rattle.words.specs.Sentences.{targetText};
 ghost use Rattle.words.specs.Tables.{sizeIn, wordAt};
 ghost use Rattle.words.specs.Words.{answerWord, kindWord, levelWord, numberWord, requestWord};
@@ -293,7 +293,18 @@ fn put_outcome(out: &mut [u8; BUFFER], place: usize, o: Outcome) -> usize
     )
 }
 
-// The line of a call by what it looked at, its outcome, and what it would look at after it.
+// After a denial, how many refusals of the caller's owner are counted.
+fn put_count(out: &mut [u8; BUFFER], place: usize, o: Outcome, v: View, n: u32) -> usize
+    ensures { λ x. ⌜ Stored (now (out .entry)) place (countText o v n) (now (out .exit)) x ⌝ }
+{
+    if answers::is_denial(o.number()) {
+        let p = put_one(out, place, b"; refusals of user #: ", v.caller.owner);
+        return text::put_decimal(out, p, n as u64);
+    }
+    text::put_text(out, place, b"")
+}
+
+// The line of a call by what it looked at, its outcome, what it would look at after it, and the counter of the caller's owner.
 fn put_sentence(
     out: &mut [u8; BUFFER],
     place: usize,
@@ -302,13 +313,15 @@ fn put_sentence(
     v: View,
     o: Outcome,
     w: View,
+    n: u32,
 ) -> usize
-    ensures { λ x. ⌜ Stored (now (out .entry)) place (sentenceText index c v o w) (now (out .exit)) x ⌝ }
+    ensures { λ x. ⌜ Stored (now (out .entry)) place (sentenceText index c v o w n) (now (out .exit)) x ⌝ }
 {
     let mut p = put_before(out, place, index, c, v);
     p = put_target(out, p, c, v);
     p = put_outcome(out, p, o);
     p = put_process(out, p, w);
+    p = put_count(out, p, o, v, n);
     text::put_text(out, p, b"\n")
 }
 
@@ -323,7 +336,8 @@ pub fn tell(f: Facility, index: u64, c: Call, out: &mut [u8; BUFFER], place: &mu
     let facility = enforced.facility;
     let outcome = enforced.outcome;
     let w = calls::view_of(facility, c);
-    *place = put_sentence(out, *place, index, c, v, outcome, w);
+    let n = labels::word_at(&facility.refusals, v.caller.owner as usize);
+    *place = put_sentence(out, *place, index, c, v, outcome, w, n);
     facility
 }
 

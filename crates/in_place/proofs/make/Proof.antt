@@ -46,9 +46,9 @@ returns-7 c =
 
 returns-8 : tie.Need-returns-8
 returns-8 c =
-    let c4 = c .before .before .before .before in
-    let c7 = c4 .before .before .before in
-    becomes-by (c7 .args .s .now) _ _ _ (c4 .enum-told2 .given .1) (c .before .before .count .ensures)
+    let c5 = c .before .before .before .before .before in
+    let c8 = c5 .before .before .before in
+    becomes-by (c8 .args .s .now) _ _ _ (c5 .change7 .given .1) (c .before .before .count .ensures)
 
 pub make-spec : {M : Type 1} → statement M
 make-spec =

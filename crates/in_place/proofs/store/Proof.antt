@@ -11,18 +11,18 @@ use Rattle.in_place.proofs.store.Tie as tie
 same-length : tie.Need-same-length
 same-length c =
     let c6 = c .before .before in
-    let c5 = c6 .before .before .before .before in
+    let c5 = c6 .before .before .before .before .before .before .before in
     let c4 = c5 .before .before .before .before .before .before .before in
     let c3 = c4 .before .before .before .before .before .before .before .before .before .before .before .before .before .before .before .before .before in
     let c2 = c3 .before .before .before .before .before .before .before .before .before .before .before .before .before .before .before in
     let c1 = c2 .before .before .before .before .before .before .before .before .before .before .before in
     let x = c1 .before .before .before in
-    c6 .put-refusals .kept .0 ∙ c5 .put-array .kept .0 ∙ c4 .put-processes .ensures .long ∙ sym (x .pre)
+    c6 .put-counters .kept .0 ∙ c5 .put-array .kept .0 ∙ c4 .put-processes .ensures .long ∙ sym (x .pre)
 
 returns : tie.Need-returns
 returns c =
     let c6 = c .before .before in
-    let c5 = c6 .before .before .before .before in
+    let c5 = c6 .before .before .before .before .before .before .before in
     let c4 = c5 .before .before .before .before .before .before .before in
     let c3 = c4 .before .before .before .before .before .before .before .before .before .before .before .before .before .before .before .before .before in
     let c2 = c3 .before .before .before .before .before .before .before .before .before .before .before .before .before .before .before in
@@ -32,7 +32,7 @@ returns c =
     let g = x .good .0 .1 .1 .1 .1 .1 .1 .1 .1 .1 .1 .1 .1 .1 .1 .1 .1 .1 .1 .1 .1 .1 in
     let n : length (f .opens) ≡ mostOpens = length-unmapped ℕ (f .opens) mostOpens (g .0 .1 .0 .1) in
     stored-whole (x .args .s .now) _ _ _ _ _ _ f n (c1 .put-counts .ensures) (c2 .put-users .ensures) (c3 .put-objects .ensures)
-    (c4 .put-processes .ensures) (c5 .put-array .ensures) (c6 .put-refusals .ensures)
+    (c4 .put-processes .ensures) (c5 .put-array .ensures) (c6 .put-counters .ensures)
 
 pub store-spec : {M : Type 1} → statement M
 store-spec =

@@ -10,7 +10,7 @@ use Rattle.state.specs.declared.Facility.{Facility}
 use Rattle.labels.specs.Decisions.{at}
 use Rattle.opens.specs.Opens.{mostObjects}
 use Rattle.state.specs.State.{live}
-use Rattle.rules.specs.Calls.{accepted, after}
+use Rattle.rules.specs.Calls.{ownerIn, accepted, after}
 use Rattle.rules.specs.Requests.{actionOf, classOf, isCreate, inDirectory}
 use Rattle.rules.specs.Modules.{viewOf}
 use Rattle.rules.specs.Questions.{number}
@@ -81,7 +81,7 @@ unfolding stepOf after
 next-kept f l c z S n =
     by-test (accepted f c)
     (λ h. rw h (next-carried f l c z S n h))
-    (λ h. rw h (n ∙ sym (refused-entered f (number f c))))
+    (λ h. rw h (n ∙ sym (refused-entered f (ownerIn f c) (number f c))))
 
 all-in-range : (cs : List Call) (f : Facility) (l : Ledger) → Sized l → Regular f → l .next ≡ f .entered → AllInRange l (history f cs)
 unfolding history

@@ -58,6 +58,13 @@ at-puts l to v (suc n) j h b d =
     let less : j < n = omega arith in
     getD-set-other (puts l to v n) (to n) (to j) (v n) 0 (d n less) ∙ at-puts l to v n j less b d)
 
+-- a store at each place makes the whole list
+pub puts-whole : (l m : List ℕ) → length l ≡ length m → puts l (λ j. j) (at m) (length m) ≡ m
+puts-whole l m e =
+    let n = length-puts l (λ j. j) (at m) (length m) in
+    ext-getD 0 (puts l (λ j. j) (at m) (length m)) m (n ∙ e)
+    (λ i b. at-puts l (λ j. j) (at m) (length m) i (omega arith) (omega arith) (λ k h. omega arith))
+
 -- lists that agree at each place are the same
 same-opens : (l m : List ℕ) (g : ℕ → ℕ) → length m ≡ length l → ((i : ℕ) → i < length l → at m i ≡ g i) → m ≡ build (length l) g
 same-opens l m g e h =

@@ -4,13 +4,14 @@ use Prim.Native.Nat.{ℕ}
 use mathlib.Core.Path.{_≡_, refl}
 use mathlib.Core.Bool.{true, false}
 use mathlib.Core.List.{List, [], _∷_, _++_, map}
-use lib.ListN.{replicate}
+use lib.ListN.{replicate, take}
 use Rattle.answers.specs.Outcomes.{denies, notCared, outcomeOf, numberOf, answersOf, objectNumberOf}
 use Rattle.rules.specs.Types.{Granted, NotGranted, Undefined, Answers, Outcome, Call, Facility}
 use Rattle.rules.specs.Computed.{everything, call, switches, user, object, codes, processBytes, openBytes, counts}
 use Rattle.rules.specs.Setup.{fresh}
 use Rattle.rules.specs.Calls.{objectGiven, query, after, enforce}
-use Rattle.rules.specs.Histories.{run, outcomes, trustedLogin, trustedLogins}
+use Rattle.rules.specs.Histories.{run, outcomes, trustedLogin, trustedLogins, past, ownerAfter, isStart, isCloning}
+use Rattle.rules.specs.Promises.{denialsOf, sumTo}
 use Rattle.rules.specs.Examples.SetupRecords.{filesOfLevel0}
 
 -- a call's number, its object and its four answers
@@ -105,9 +106,46 @@ enforced = refl
 pub counted-refusals :
     run (fresh (switches 1 0 0 ++ user 1 0 0 ++ object 0 2 0 0 ++ object 0 255 0 0))
     (call 21 0 0 0 ∷ call 13 0 0 0 ∷ call 13 0 1 0 ∷ call 13 0 2 0 ∷ call 13 0 0 0 ∷ []) .refusals
-    ≡ 3
+    ≡ 3 ∷ replicate 15 0
 unfolding everything
 counted-refusals = refl
+
+-- three users, and calls: process 0 is user 1's and so is its clone 2, process 1 is user 0's and later user 2's; process 1 signals process 0
+abbrev office : Facility
+office = fresh (switches 1 0 0 ++ user 1 0 0 ++ user 1 0 0 ++ user 1 0 0 ++ object 0 2 0 0 ++ object 0 1 0 0)
+
+abbrev signalled : List Call
+signalled =
+    call 21 0 0 1 ∷ call 21 1 0 0 ∷ call 2 0 2 0 ∷ call 13 0 1 0 ∷ call 13 0 0 0 ∷ call 13 2 0 0 ∷ call 16 1 0 0 ∷ call 13 1 0 0
+    ∷ call 18 1 0 0 ∷ call 21 1 0 2 ∷ call 13 1 0 0 ∷ call 13 3 0 0 ∷ []
+
+-- Ticket 1, "counted for the owner of the calling process": a signal is the caller's and not the receiver's, and what a process did stays its
+-- owner's after it terminated
+pub refusals-by-user :
+    map (λ n. run office (take n signalled) .refusals) (5 ∷ 6 ∷ 7 ∷ 8 ∷ 10 ∷ 11 ∷ 12 ∷ [])
+    ≡ (0 ∷ 1 ∷ replicate 14 0) ∷ (0 ∷ 2 ∷ replicate 14 0) ∷ (1 ∷ 2 ∷ replicate 14 0) ∷ (2 ∷ 2 ∷ replicate 14 0) ∷ (2 ∷ 2 ∷ replicate 14 0)
+    ∷ (2 ∷ 2 ∷ 1 ∷ replicate 13 0) ∷ (2 ∷ 2 ∷ 1 ∷ replicate 13 0) ∷ []
+unfolding everything
+refusals-by-user = refl
+
+-- what the history tells: who owns processes 0 to 3 before and after the later login, and that a refused login and a refused clone make no owner;
+-- and whose the denials are
+pub owners-told :
+    map (ownerAfter (past office (take 8 signalled) [])) (0 ∷ 1 ∷ 2 ∷ 3 ∷ [])
+    ∷ map (ownerAfter (past office signalled [])) (0 ∷ 1 ∷ 2 ∷ 3 ∷ [])
+    ∷ map (ownerAfter (past office (call 21 0 0 1 ∷ call 21 0 0 2 ∷ call 21 1 0 2 ∷ call 2 0 1 0 ∷ []) [])) (0 ∷ 1 ∷ [])
+    ∷ []
+    ≡ (1 ∷ 0 ∷ 1 ∷ 0 ∷ []) ∷ (1 ∷ 2 ∷ 1 ∷ 0 ∷ []) ∷ (1 ∷ 2 ∷ []) ∷ []
+unfolding everything past ownerAfter isStart isCloning
+owners-told = refl
+
+pub denials-told : map (λ u. denialsOf u (past office signalled [])) (0 ∷ 1 ∷ 2 ∷ 3 ∷ []) ≡ 2 ∷ 2 ∷ 1 ∷ 0 ∷ []
+unfolding everything past ownerAfter isStart isCloning denialsOf
+denials-told = refl
+
+pub summed : map (λ n. sumTo n (λ k. k)) (0 ∷ 1 ∷ 2 ∷ 3 ∷ 4 ∷ []) ≡ 0 ∷ 0 ∷ 1 ∷ 3 ∷ 6 ∷ []
+unfolding sumTo
+summed = refl
 
 -- a call that MAC grants and FC does not: the counter goes up, levels, marks and opens stay
 pub refused-by-fc :

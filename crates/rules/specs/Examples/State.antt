@@ -61,10 +61,15 @@ pub fresh-process :
 unfolding everything
 fresh-process = refl
 
--- "at 4,294,967,295 it stays"
+-- "at 4,294,967,295 it stays", "each with its own stop": sixteen counters next to their stop, and one more refusal of users 0, 1, 15 and 16
 pub counter-stop :
-    map (λ n. counted (putRefusals (blank allOff) n) .refusals) (0 ∷ 4294967293 ∷ 4294967294 ∷ 4294967295 ∷ [])
-    ≡ 1 ∷ 4294967294 ∷ 4294967295 ∷ 4294967295 ∷ []
+    map (λ u. counted (putRefusals (blank allOff) (4294967295 ∷ 4294967294 ∷ replicate 13 4294967295 ++ (4294967293 ∷ []))) u .refusals)
+    (0 ∷ 1 ∷ 15 ∷ 16 ∷ [])
+    ≡ (4294967295 ∷ 4294967294 ∷ replicate 13 4294967295 ++ (4294967293 ∷ []))
+    ∷ (4294967295 ∷ 4294967295 ∷ replicate 13 4294967295 ++ (4294967293 ∷ []))
+    ∷ (4294967295 ∷ 4294967294 ∷ replicate 13 4294967295 ++ (4294967294 ∷ []))
+    ∷ (4294967295 ∷ 4294967294 ∷ replicate 13 4294967295 ++ (4294967293 ∷ []))
+    ∷ []
 unfolding everything
 counter-stop = refl
 
@@ -89,7 +94,7 @@ pub changed-marks :
 unfolding everything
 changed-marks = refl
 
--- A facility with users 0 and 1, objects 0 and 1, processes 0 and 31, and seven refusals.
+-- A facility with users 0 and 1, objects 0 and 1, processes 0 and 31, and seven refusals of user 0.
 abbrev user0 : User
 user0 = record { clearance = label 12; role = 1; trusted = 0 }
 
@@ -113,7 +118,7 @@ filled =
     putRefusals
     (opened (opened (putProcess (putProcess (putObject (putObject (putUser (putUser
     (blank (record { mac = 1; fc = 0; sim = 1 })) user0) user1) object0) object1) 0 process0) 31 process31) 0 1 3) 31 0 2)
-    7
+    (7 ∷ replicate 15 0)
 
 -- all that stands in a facility of two users, two objects, and processes 0, 1 and 31, but for the opens; and the opens
 abbrev contents : Facility → List (List ℕ)
@@ -196,7 +201,7 @@ opened-and-closed = refl
 
 -- the counter, and no more: one refusal
 pub counted-once :
-    contents (counted filled) ++ openMarks (counted filled)
+    contents (counted filled 0) ++ openMarks (counted filled 0)
     ≡ (1 ∷ 0 ∷ 1 ∷ 2 ∷ 2 ∷ 8 ∷ []) ∷ (12 ∷ 1 ∷ 0 ∷ []) ∷ (3 ∷ 2 ∷ 1 ∷ [])
     ∷ (1 ∷ 0 ∷ 4 ∷ 1 ∷ 1 ∷ []) ∷ (1 ∷ 2 ∷ 255 ∷ 255 ∷ 0 ∷ [])
     ∷ (1 ∷ 1 ∷ 5 ∷ 2 ∷ 9 ∷ 1 ∷ []) ∷ (0 ∷ 0 ∷ 0 ∷ 0 ∷ 0 ∷ 0 ∷ []) ∷ (1 ∷ 0 ∷ 6 ∷ 3 ∷ 8 ∷ 0 ∷ [])

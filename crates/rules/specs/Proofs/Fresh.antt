@@ -10,13 +10,13 @@ use Rattle.rules.specs.Types.{Switches, User, Object, Facility}
 use Rattle.labels.specs.Decisions.{_and_, on}
 use Rattle.labels.specs.Laws.Decisions.{by-test, by-eq}
 use Rattle.state.specs.Laws.ReadBack.{object-new, object-old, add-user, add-object}
-use Rattle.state.specs.State.{mostUsers, switchesOf, allOff, runs, live, opensOf, putUser, putObject, noProcess, blank}
+use Rattle.state.specs.State.{mostUsers, switchesOf, allOff, refusalsOf, runs, live, opensOf, putUser, putObject, noProcess, blank}
 use Rattle.opens.specs.Opens.{mostObjects}
 use Rattle.rules.specs.Kinds.{SetupRecord, switchesKind, usersKind, objectsKind, kindOf, countOf, fits, room, allowedBy, recordNumber}
 use Rattle.rules.specs.Setup.{sized, switchesEntered, userEntered, objectEntered, enterRecord, enterAll, readSetup, switchesRecord, userRecord}
 use Rattle.rules.specs.Setup.{objectRecord}
 use Rattle.rules.specs.Proofs.Regular.{Regular, regular-user, regular-object, none-lawful}
-use Rattle.rules.specs.Proofs.Sound.{sound-blank, blank-closed, blank-process}
+use Rattle.rules.specs.Proofs.Sound.{at-zeros, sound-blank, blank-closed, blank-process}
 use Rattle.rules.specs.Proofs.Records.{kept, kept-record, allowed-as, Accepts, accepts, first-kind, by-kind}
 use Rattle.rules.specs.Proofs.Past.{count-same, count-other, later-place}
 
@@ -25,11 +25,11 @@ pub record Fresh (f : Facility) : Type 0 where
   pub whole : (t : ℕ) → t < f .entered → live f t ≡ true
   pub stopped : (p : ℕ) → runs f p ≡ false
   pub closed : (p t : ℕ) → opensOf f p t ≡ 0
-  pub refusals : f .refusals ≡ 0
+  pub refusals : (u : ℕ) → refusalsOf f u ≡ 0
 
-blank-refusals : (s : Switches) → (blank s) .refusals ≡ 0
+blank-refusals : (s : Switches) (u : ℕ) → refusalsOf (blank s) u ≡ 0
 unfolding blank
-blank-refusals s = refl
+blank-refusals s u = at-zeros mostUsers u
 
 blank-users : (s : Switches) → (blank s) .users ≡ 0
 unfolding blank

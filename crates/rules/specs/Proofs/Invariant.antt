@@ -21,7 +21,7 @@ use Rattle.labels.specs.Labels.{Label, given, _⊑_}
 use Rattle.labels.specs.Laws.Labels.{⊑-trans}
 use Rattle.rules.specs.Flow.{Above}
 use Rattle.rules.specs.Matter.{Set, only, put, Account, processGains, objectGains, assign, enter}
-use Rattle.rules.specs.Proofs.Sound.{Sound, sound-process, sound-opens, sound-refusals, sound-object, sound-drop}
+use Rattle.rules.specs.Proofs.Sound.{Sound, sound-process, sound-opens, sound-counted, sound-object, sound-drop}
 
 -- an untrusted process: its marks stand on both sides of its level
 pub record Ordered (r : Process) : Type 0 where
@@ -137,11 +137,11 @@ inv-drop f a t I =
     }
 
 -- a refusal is counted
-pub inv-counted : (f : Facility) (a : Account) → Inv f a → Inv (counted f) a
+pub inv-counted : (f : Facility) (a : Account) (u : ℕ) → Inv f a → Inv (counted f u) a
 unfolding counted putRefusals opensOf
-inv-counted f a I =
+inv-counted f a u I =
     record {
-      sound = sound-refusals f _ (I .sound);
+      sound = sound-counted f u (I .sound);
       mac = I .mac;
       next = I .next;
       kinds = I .kinds;

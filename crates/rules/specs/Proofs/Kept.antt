@@ -55,16 +55,16 @@ kept-effect OnObject f c t h =
     let K = kept-open (openChange (c .request)) (putProcess f (c .process) _) (c .process) (c .target) t h in
     record { inside = K .inside; label = K .label }
 
-counted-kept : (f : Facility) (t : ℕ) → t < f .entered → Kept f (counted f) t
+counted-kept : (f : Facility) (u t : ℕ) → t < f .entered → Kept f (counted f u) t
 unfolding counted putRefusals
-counted-kept f t h = record { inside = h; label = refl }
+counted-kept f u t h = record { inside = h; label = refl }
 
 kept-after : (f : Facility) (c : Call) (t : ℕ) → t < f .entered → Kept f (after f c) t
 unfolding after afterRefusal
 kept-after f c t h =
     by-test (accepted f c)
     (λ e. rw e (kept-effect (actionOf (c .request)) f c t h))
-    (λ e. rw e (by-test (denies (number f c)) (λ d. rw d (counted-kept f t h)) (λ d. rw d (kept f t h))))
+    (λ e. rw e (by-test (denies (number f c)) (λ d. rw d (counted-kept f _ t h)) (λ d. rw d (kept f t h))))
 
 pub kept-run : (cs : List Call) (f : Facility) (t : ℕ) → t < f .entered → Kept f (run f cs) t
 unfolding run

@@ -16,7 +16,7 @@ use Rattle.opens.specs.Opens.{mostObjects}
 use Rattle.state.specs.State.{putProcess, putOpens, putObject, addObject, dropObject, putRefusals, counted, openBy}
 use Rattle.answers.specs.Answers.{isNotGranted, isUndefined}
 use Rattle.rules.specs.Effects.{effectFrom, effectBy}
-use Rattle.rules.specs.Calls.{accepted, objectGiven, query, afterRefusal, after}
+use Rattle.rules.specs.Calls.{ownerIn, accepted, objectGiven, query, afterRefusal, after}
 use Rattle.rules.specs.Histories.{run}
 use Rattle.rules.specs.Requests.{Action, Login, Clone, SendSignal, SetLevel, Terminate, Create, OnObject, Unknown, OpenChange, Keep, Add, Close}
 use Rattle.rules.specs.Requests.{CloseAll, actionOf, isSetLevel, isCreate, inDirectory, openChange}
@@ -56,9 +56,9 @@ effect-entered OnObject f c q =
     let e = open-entered (openChange (c .request)) (putProcess f (c .process) (moved (viewOf f c) c)) (c .process) (c .target) in
     omega arith
 
-pub refused-entered : (f : Facility) (n : ℕ) → (afterRefusal f n) .entered ≡ f .entered
+pub refused-entered : (f : Facility) (u n : ℕ) → (afterRefusal f u n) .entered ≡ f .entered
 unfolding afterRefusal counted putRefusals
-refused-entered f n = by-test (denies n) (λ h. rw h) (λ h. rw h)
+refused-entered f u n = by-test (denies n) (λ h. rw h) (λ h. rw h)
 
 -- whether a call is an accepted create
 abbrev creates : Facility → Call → Bool
@@ -69,7 +69,7 @@ unfolding after _and_
 call-entered f c =
     by-test (accepted f c)
     (λ h. rw h (effect-entered (actionOf (c .request)) f c (passed (actionOf (c .request)) (viewOf f c) c (accepted-zero f c h))))
-    (λ h. rw h (let e = refused-entered f (number f c) in omega arith))
+    (λ h. rw h (let e = refused-entered f (ownerIn f c) (number f c) in omega arith))
 
 -- an accepted create returns the next number
 create-next : (f : Facility) (c : Call) → creates f c ≡ true → objectNumberOf (query f c) ≡ f .entered

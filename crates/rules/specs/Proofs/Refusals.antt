@@ -13,7 +13,7 @@ use Rattle.labels.specs.Laws.Decisions.{or-cases, by-test}
 use Rattle.answers.specs.Outcomes.{denies, outcomeOf, numberOf}
 use Rattle.answers.specs.Laws.Outcomes.{outcome-number}
 use Rattle.state.specs.State.{putRefusals, counted}
-use Rattle.rules.specs.Calls.{accepted, query, afterRefusal, after}
+use Rattle.rules.specs.Calls.{ownerIn, accepted, query, afterRefusal, after}
 use Rattle.rules.specs.Requests.{Action, actionOf}
 use Rattle.rules.specs.Modules.{View, viewOf}
 use Rattle.rules.specs.Promises.{Refusals}
@@ -51,13 +51,13 @@ denied-not-zero n h =
     (λ e. let q = eqb-true n 12 e in not-zero n (omega arith))
     (λ e. let q = eqb-true n 13 e in not-zero n (omega arith))
 
-refusal-kept : (f : Facility) (n : ℕ) → afterRefusal f n ≡ putRefusals f (afterRefusal f n .refusals)
+refusal-kept : (f : Facility) (u n : ℕ) → afterRefusal f u n ≡ putRefusals f (afterRefusal f u n .refusals)
 unfolding afterRefusal counted putRefusals
-refusal-kept f n = by-test (denies n) (λ h. rw h) (λ h. rw h)
+refusal-kept f u n = by-test (denies n) (λ h. rw h) (λ h. rw h)
 
 unchanged' : (f : Facility) (c : Call) → accepted f c ≡ false → after f c ≡ putRefusals f (after f c .refusals)
 unfolding after
-unchanged' f c h = rw h (refusal-kept f (number f c))
+unchanged' f c h = rw h (refusal-kept f (ownerIn f c) (number f c))
 
 uncounted' : (f : Facility) (c : Call) → accepted f c ≡ false → denies (number f c) ≡ false → after f c ≡ f
 unfolding after afterRefusal
@@ -67,7 +67,7 @@ unasked' : (f : Facility) (c : Call) → accepted f c ≡ false → denies (numb
 unfolding query outcomeOf accepted
 unasked' f c h k = rw (h, k)
 
-counts' : (f : Facility) (c : Call) → denies (number f c) ≡ true → after f c ≡ counted f
+counts' : (f : Facility) (c : Call) → denies (number f c) ≡ true → after f c ≡ counted f (ownerIn f c)
 unfolding after accepted afterRefusal
 counts' f c h = rw (denied-not-zero (number f c) h, h)
 

@@ -21,7 +21,7 @@ use Rattle.labels.specs.Labels.{Label, lawful, given}
 use Rattle.labels.specs.Laws.Labels.{⊑-refl, bottom-least, join-lawful, meet-lawful, level-lawful, lawful-level, unset-level}
 use Rattle.answers.specs.Answers.{passes}
 use Rattle.rules.specs.Effects.{created, effectFrom, effectBy}
-use Rattle.rules.specs.Calls.{accepted, afterRefusal, after}
+use Rattle.rules.specs.Calls.{ownerIn, accepted, afterRefusal, after}
 use Rattle.rules.specs.Histories.{run}
 use Rattle.rules.specs.Requests.{Action, Login, Clone, SendSignal, SetLevel, Terminate, Create, OnObject, Unknown, Class, Absent, Reads, Writes}
 use Rattle.rules.specs.Requests.{Both, NoCondition, OpenChange, Keep, Add, Close, CloseAll, actionOf, inDirectory, openChange}
@@ -31,7 +31,7 @@ use Rattle.rules.specs.Modules.{View, viewOf, classIn, macObject, macRul
 use Rattle.rules.specs.Questions.{number}
 use Rattle.rules.specs.Proofs.Moves.{object-granted}
 use Rattle.rules.specs.Proofs.Invariant.{each}
-use Rattle.rules.specs.Proofs.Sound.{Sound, sound-process, sound-opens, sound-refusals, sound-user, sound-object, sound-drop}
+use Rattle.rules.specs.Proofs.Sound.{Sound, sound-process, sound-opens, sound-counted, sound-user, sound-object, sound-drop}
 use Rattle.rules.specs.Proofs.Passed.{Passed, passed, mac-passed, accepted-zero}
 
 pub record LawfulProcess (r : Process) : Type 0 where
@@ -69,11 +69,11 @@ regular-opens f l e R =
       process = R .process;
     }
 
-regular-refusals : (f : Facility) (n : ℕ) → Regular f → Regular (putRefusals f n)
-unfolding putRefusals
-regular-refusals f n R =
+regular-counted : (f : Facility) (u : ℕ) → Regular f → Regular (counted f u)
+unfolding counted putRefusals
+regular-counted f u R =
     record {
-      sound = sound-refusals f n (R .sound);
+      sound = sound-counted f u (R .sound);
       switches = R .switches;
       user = R .user;
       object = R .object;
@@ -231,16 +231,16 @@ module _ (f : Facility) (c : Call) (R : Regular f) where
   regular-effect OnObject q = regular-object-call q
   regular-effect Unknown q = R
 
-regular-refused : (f : Facility) (n : ℕ) → Regular f → Regular (afterRefusal f n)
-unfolding afterRefusal counted
-regular-refused f n R = by-test (denies n) (λ d. rw d (regular-refusals f _ R)) (λ d. rw d R)
+regular-refused : (f : Facility) (u n : ℕ) → Regular f → Regular (afterRefusal f u n)
+unfolding afterRefusal
+regular-refused f u n R = by-test (denies n) (λ d. rw d (regular-counted f u R)) (λ d. rw d R)
 
 pub regular-after : (f : Facility) (c : Call) → Regular f → Regular (after f c)
 unfolding after
 regular-after f c R =
     by-test (accepted f c)
     (λ h. rw h (regular-effect f c R (actionOf (c .request)) (passed (actionOf (c .request)) (viewOf f c) c (accepted-zero f c h))))
-    (λ h. rw h (regular-refused f (number f c) R))
+    (λ h. rw h (regular-refused f (ownerIn f c) (number f c) R))
 
 pub regular-run : (cs : List Call) (f : Facility) → Regular f → Regular (run f cs)
 unfolding run

@@ -12,9 +12,9 @@ use Rattle.rules.specs.Types.{Switches, Process, User, Object, Facility}
 use Rattle.labels.specs.Decisions.{at, on}
 use Rattle.labels.specs.Laws.Decisions.{clash, by-test, by-eq}
 use Rattle.state.specs.Shaped.{Shaped}
-use Rattle.state.specs.Laws.ReadBack.{object-old, shaped-process, shaped-opens, shaped-user, shaped-object, shaped-drop, shaped-refusals}
+use Rattle.state.specs.Laws.ReadBack.{object-old, shaped-process, shaped-opens, shaped-user, shaped-object, shaped-drop, shaped-counted}
 use Rattle.state.specs.State.{mostUsers, processIn, objectIn, processOf, live, opensOf, putProcess, putOpens, putUser, putObject, dropObject, putRefusals}
-use Rattle.state.specs.State.{noProcess, blank}
+use Rattle.state.specs.State.{noProcess, blank, counted}
 use Rattle.opens.specs.Opens.{mostProcesses, mostObjects, mostOpens, markPlace}
 use Rattle.labels.specs.Labels.{label, bottom}
 
@@ -34,10 +34,10 @@ unfolding putOpens
 sound-opens f l e S =
     record { shaped = shaped-opens f l e (S .shaped); users = S .users; entered = S .entered; alive = S .alive }
 
-pub sound-refusals : (f : Facility) (n : ℕ) → Sound f → Sound (putRefusals f n)
-unfolding putRefusals
-sound-refusals f n S =
-    record { shaped = shaped-refusals f n (S .shaped); users = S .users; entered = S .entered; alive = S .alive }
+pub sound-counted : (f : Facility) (u : ℕ) → Sound f → Sound (counted f u)
+unfolding counted putRefusals
+sound-counted f u S =
+    record { shaped = shaped-counted f u (S .shaped); users = S .users; entered = S .entered; alive = S .alive }
 
 pub sound-user : (f : Facility) (u : User) → f .users < mostUsers → Sound f → Sound (putUser f u)
 unfolding putUser
@@ -79,7 +79,7 @@ sound-drop f t S =
           (λ n. S .alive u (rw (getD-set-other (f .lives) t u 0 0 n) at h));
     }
 
-at-zeros : (n i : ℕ) → at (replicate n 0) i ≡ 0
+pub at-zeros : (n i : ℕ) → at (replicate n 0) i ≡ 0
 at-zeros zero i = refl
 at-zeros (suc n) zero = refl
 at-zeros (suc n) (suc i) = at-zeros n i
@@ -109,6 +109,7 @@ sound-blank s =
           automatics = zeros-length mostProcesses;
         };
         opens = zeros-length mostOpens;
+        refusals = zeros-length mostUsers;
       };
       users = omega arith;
       entered = omega arith;

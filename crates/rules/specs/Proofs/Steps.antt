@@ -291,4 +291,4 @@ unfolding after afterEntry trustedLogin afterRefusal _and_
 inv-after f a c I u =
     by-test (accepted f c)
     (λ h. rw h (step (actionOf (c .request)) f a c I refl (rw h at u) (passed (actionOf (c .request)) (viewOf f c) c (accepted-zero f c h))))
-    (λ h. rw h (by-test (denies (number f c)) (λ e. rw e (inv-counted f a I)) (λ e. rw e I)))
+    (λ h. rw h (by-test (denies (number f c)) (λ e. rw e (inv-counted f a _ I)) (λ e. rw e I)))

@@ -12,7 +12,7 @@ use Rattle.labels.specs.Decisions.{at}
 use Rattle.labels.specs.Laws.Decisions.{by-test, by-eq}
 use Rattle.state.specs.Shaped.{Shaped}
 use Rattle.opens.specs.Laws.Opens.{mark-place, no-object-place, no-process-place}
-use Rattle.state.specs.Laws.ReadBack.{process-out, opens-out, deleted-out, opens-kept}
+use Rattle.state.specs.Laws.ReadBack.{process-out, opens-out, deleted-out, opens-kept, counted-none}
 use Rattle.opens.specs.Laws.Loops.{no-process-closed, no-process-copied}
 use Rattle.state.specs.State.{Facility, opensOf, processOf, noProcess, putProcess, putOpens, putMarks}
 use Rattle.opens.specs.Opens.{mostProcesses, mostObjects, mostOpens, place, markPlace, closeProcess, copyProcess}
@@ -44,6 +44,7 @@ module _ (f : Facility) (s : Shaped f) where
     deleting = λ t h. deleted-out f t (s .objects .lives) h;
     markingObject = λ p t v h. marks-out p t v (object-place p t h);
     closedObject = λ p t h. none-open p t (object-place p t h);
+    counting = λ u h. counted-none f u (s .refusals) h;
   }
 
   same-marks : (p t v : ℕ) → p < mostProcesses → t < mostObjects → opensOf (putMarks f p t v) p t ≡ v

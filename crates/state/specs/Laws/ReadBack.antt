@@ -6,11 +6,11 @@ use mathlib.Core.Logic.{_≢_}
 use lib.ListN.{length, set, length-set}
 use lib.Seq.{getD-set-same, getD-set-other, set-out, set-getD}
 use native.Mathlib.Omega.{arith}
-use borrow.Author.Tests.{lt-ltb}
+use borrow.Author.Tests.{lt-ltb, le-ltb}
 use Rattle.labels.specs.Decisions.{at}
 use Rattle.state.specs.State.{Facility, Process, processIn, processOf, putProcess, User, mostUsers, userIn, userOf, putUser, Object, objectIn}
 use Rattle.state.specs.State.{objectOf, putObject, addUser, addObject, putOpens, dropObject, putRefusals, opensOf, processesFrom, usersIn, objectsIn}
-use Rattle.state.specs.State.{processesIn, with, objectsFrom, putMarks, deleted}
+use Rattle.state.specs.State.{processesIn, with, objectsFrom, putMarks, deleted, counted, refusalsOf, mostRefusals, oneMore}
 use Rattle.opens.specs.Opens.{mostProcesses, mostObjects, mostOpens, place, markPlace}
 use Rattle.labels.specs.Labels.{label}
 use Rattle.state.specs.Shaped.{Shaped, ProcessesShaped}
@@ -118,11 +118,12 @@ shaped-process f p r s =
         automatics = simp length-set (l .automatics);
       };
       opens = s .opens;
+      refusals = s .refusals;
     }
 
 pub shaped-opens : (f : Facility) (l : List ℕ) → length l ≡ mostOpens → Shaped f → Shaped (putOpens f l)
 unfolding putOpens
-shaped-opens f l e s = record { users = s .users; objects = s .objects; processes = s .processes; opens = e }
+shaped-opens f l e s = record { users = s .users; objects = s .objects; processes = s .processes; opens = e; refusals = s .refusals }
 
 pub shaped-user : (f : Facility) (u : User) → Shaped f → Shaped (putUser f u)
 unfolding putUser
@@ -137,6 +138,7 @@ shaped-user f u s =
       objects = s .objects;
       processes = s .processes;
       opens = s .opens;
+      refusals = s .refusals;
     }
 
 pub shaped-object : (f : Facility) (o : Object) → Shaped f → Shaped (putObject f o)
@@ -154,6 +156,7 @@ shaped-object f o s =
       };
       processes = s .processes;
       opens = s .opens;
+      refusals = s .refusals;
     }
 
 pub shaped-drop : (f : Facility) (t : ℕ) → Shaped f → Shaped (dropObject f t)
@@ -171,11 +174,16 @@ shaped-drop f t s =
       };
       processes = s .processes;
       opens = s .opens;
+      refusals = s .refusals;
     }
 
-pub shaped-refusals : (f : Facility) (n : ℕ) → Shaped f → Shaped (putRefusals f n)
+pub shaped-refusals : (f : Facility) (l : List ℕ) → length l ≡ mostUsers → Shaped f → Shaped (putRefusals f l)
 unfolding putRefusals
-shaped-refusals f n s = record { users = s .users; objects = s .objects; processes = s .processes; opens = s .opens }
+shaped-refusals f l e s = record { users = s .users; objects = s .objects; processes = s .processes; opens = s .opens; refusals = e }
+
+pub shaped-counted : (f : Facility) (u : ℕ) → Shaped f → Shaped (counted f u)
+unfolding counted
+shaped-counted f u s = shaped-refusals f _ (simp length-set (s .refusals)) s
 
 pub opens-at : (f : Facility) (p t : ℕ) → t < mostObjects → opensOf f p t ≡ at (f .opens) (place p t)
 unfolding opensOf
@@ -206,6 +214,24 @@ pub opens-out : (f : Facility) (n v : ℕ) → length (f .opens) ≡ mostOpens �
 unfolding putOpens
 opens-out f n v e h =
     λ i. with f (f .users) (usersIn f) (f .entered) (objectsIn f) (processesIn f) (set-out (f .opens) n v (omega arith) i) (f .refusals)
+
+-- a refusal of user u is one more of u's, and of no other's
+pub counted-own : (f : Facility) (u : ℕ) → Shaped f → u < mostUsers → refusalsOf (counted f u) u ≡ oneMore (refusalsOf f u)
+unfolding counted putRefusals
+counted-own f u s h = at-same (f .refusals) u _ mostUsers (s .refusals) h
+
+pub counted-other : (f : Facility) (u v : ℕ) → v ≢ u → refusalsOf (counted f u) v ≡ refusalsOf f v
+unfolding counted putRefusals
+counted-other f u v n = at-other (f .refusals) u v _ n
+
+-- a counter at its stop stays, and so do all where there is no such user
+pub counted-stays : (f : Facility) (u : ℕ) → mostRefusals ≤ refusalsOf f u → counted f u ≡ f
+unfolding counted putRefusals
+counted-stays f u h = rw (le-ltb _ _ h) (ap (putRefusals f) (set-getD (f .refusals) u 0))
+
+pub counted-none : (f : Facility) (u : ℕ) → length (f .refusals) ≡ mostUsers → mostUsers ≤ u → counted f u ≡ f
+unfolding counted putRefusals
+counted-none f u e h = ap (putRefusals f) (set-out (f .refusals) u _ (omega arith))
 
 -- marks that are put back as they were
 pub marks-kept : (f : Facility) (p t : ℕ) → putMarks f p t (opensOf f p t) ≡ f

@@ -25,7 +25,7 @@ returns-7 : tie.Need-returns-7
 returns-7 c = rw (c .before .before .change6 .given .1, c .with-object2 .ensures)
 
 returns-8 : tie.Need-returns-8
-returns-8 c = rw (c .before .enum-told2 .given .1, c .counted .ensures)
+returns-8 c = rw (c .before .before .change7 .given .1, c .counted .ensures)
 
 pub changed-spec : {M : Type 1} → statement M
 changed-spec =

@@ -1,0 +1,124 @@
+"""Compares the library for C with the model: python3 -B model/through_library.py SEED CALLS
+
+Set-ups and lists of calls from the seed, until CALLS calls were made, through model/library.c: those of fuzz.py, and as many in which many users
+and objects meet calls that the modules judge. Each call is made by value and where the facility is. After each call its outcome, the sixteen counters of refusals and the calling process are compared. Half of the lists begin
+with counters that C put into the facility, at their stop, next to it, or anywhere. `rt staticlib hvozdalka` makes the library; cc, or what CC
+names, builds the program. Ends with the number of calls, or at the first difference.
+"""
+
+import collections
+import os
+import random
+import subprocess
+import sys
+import time
+
+import fuzz
+import model
+from records import object_record, switches_record, user_record
+
+ROOT = os.path.abspath(os.path.join(os.path.dirname(os.path.abspath(__file__)), ".."))
+PROGRAM = os.path.join(ROOT, "target", "c", "library")
+STOP = model.COUNTER_STOP
+CALL_BYTES = 6 + 4 * model.MAX_USERS + 6
+BATCH = 100
+
+
+def build():
+    made = subprocess.run(["rt", "staticlib", "hvozdalka"], cwd=ROOT, capture_output=True, text=True)
+    if made.returncode != 0:
+        sys.exit(made.stdout + made.stderr)
+    os.makedirs(os.path.dirname(PROGRAM), exist_ok=True)
+    subprocess.run([os.environ.get("CC", "cc"), "-std=c11", "-O2", "-Wall", "-Wextra", "-Iinclude", "-o", PROGRAM, "model/library.c",
+                    "target/staticlib/libhvozdalka.a"], cwd=ROOT, check=True)
+
+
+def words(numbers):
+    return b"".join(n.to_bytes(4, "little") for n in numbers)
+
+
+def counters(rng):
+    """What C puts into the counters."""
+    if rng.random() < 0.5:
+        return [0] * model.MAX_USERS
+    return [rng.choice((STOP - rng.randrange(3), rng.randrange(STOP + 1), rng.randrange(2))) for _ in range(model.MAX_USERS)]
+
+
+def busy(rng):
+    """Many users and objects, and calls most of which the modules judge."""
+    users, objects, processes = rng.randrange(1, 17), rng.randrange(4, 24), rng.randrange(1, 9)
+    setup = switches_record(*(rng.random() < 0.8 for _ in range(3)))
+    setup += b"".join(user_record(rng.randrange(6), rng.randrange(3), rng.random() < 0.1) for _ in range(users))
+    setup += b"".join(object_record(rng.randrange(4), rng.choice((0, 1, 2, 3, 4, 5, model.UNSET)), rng.choice((0, 0, 1, 2, model.UNSET)),
+                                    rng.random() < 0.3) for _ in range(objects))
+    calls = [(model.LOGIN, p, 0, rng.randrange(users)) for p in range(processes)]
+    for _ in range(rng.randrange(20, 200)):
+        request = rng.choice(tuple(range(22)) + (model.READ_OPEN, model.WRITE_OPEN, model.SET_LEVEL, model.SEND_SIGNAL))
+        extra = rng.randrange(users) if request == model.LOGIN else rng.randrange(4)
+        calls.append((request, rng.randrange(processes + 1), rng.randrange(objects + 1), extra))
+    return setup, b"".join(map(bytes, calls))
+
+
+def record(facility, p):
+    """A process as C is given it."""
+    process = facility.processes[p] if p < model.PROCESSES else None
+    if process is None:
+        return bytes(6)
+    return bytes((1, process.owner, process.current, process.read_mark, process.write_mark, process.automatic))
+
+
+def expected(setup, begin, calls, seen):
+    number, index, facility = model.read_setup(setup)
+    out = [bytes((number, index % 256, index // 256))]
+    facility.refusals = list(begin)
+    for i in range(0, len(calls) - 3, 4) if number == 0 else ():
+        call = tuple(calls[i:i + 4])
+        before = list(facility.refusals)
+        outcome = model.enforce(facility, call)
+        out.append(bytes(outcome) + words(facility.refusals) + record(facility, call[1]))
+        if outcome.number in (12, 13):
+            seen["denied"] += 1
+            seen["at a stop"] += facility.refusals == before
+    return b"".join(out)
+
+
+def compare(cases, seen):
+    given = b"".join(len(setup).to_bytes(2, "little") + setup + words(begin) + (len(calls) // 4).to_bytes(4, "little")
+                     + calls[:len(calls) // 4 * 4] for setup, begin, calls in cases)
+    run = subprocess.run([PROGRAM], input=given, stdout=subprocess.PIPE)
+    if run.returncode != 0:
+        sys.exit("differs: by value and where the facility is, or the program failed: status %d" % run.returncode)
+    at = 0
+    for setup, begin, calls in cases:
+        want = expected(setup, begin, calls, seen)
+        got = run.stdout[at:at + len(want)]
+        at += len(want)
+        if got != want:
+            k = next(i for i in range(len(want)) if got[i:i + 1] != want[i:i + 1])
+            sys.exit("differs at call %d, byte %d:\nset-up %s\ncounters %s\ncalls %s" % (
+                (k - 3) // CALL_BYTES, (k - 3) % CALL_BYTES, setup.hex(), begin, calls.hex()))
+    if at != len(run.stdout):
+        sys.exit("differs: bytes behind the last call")
+
+
+def main():
+    seed, most = int(sys.argv[1]), int(sys.argv[2])
+    build()
+    rng = random.Random(seed)
+    begun, made, lists, seen, batch = time.time(), 0, 0, collections.Counter(), []
+    for case in fuzz.cases(rng):
+        for setup, calls in (case, busy(rng)):
+            batch.append((setup, counters(rng), calls))
+            made += len(calls) // 4
+            lists += 1
+        if len(batch) >= BATCH or made >= most:
+            compare(batch, seen)
+            batch = []
+        if made >= most:
+            break
+    print("seed %d: %d calls in %d lists through the library, %d denied, %d of them at a stop; none differs; %.0f s" % (
+        seed, made, lists, seen["denied"], seen["at a stop"], time.time() - begun))
+
+
+if __name__ == "__main__":
+    main()
