@@ -1,7 +1,7 @@
 -- The changes of a facility, as stores into its bytes.
 use Prim.Native.Nat.{ℕ, _+_, _≤_, _<_, _*_}
 use mathlib.Core.Path.{_≡_, ap, refl, _∙_, sym}
-use mathlib.Core.List.{List, [], _∷_}
+use mathlib.Core.List.{List}
 use lib.ListN.{set, length, drop, length-take, length-drop}
 use lib.Seq.{getD-set-same}
 use native.Mathlib.Omega.{arith}

@@ -1,5 +1,5 @@
 -- A facility by value is stored field by field; and what `Becomes` promises fixes every byte.
-use Prim.Native.Nat.{ℕ, suc, _+_, _≤_, zero, _*_, _<_}
+use Prim.Native.Nat.{ℕ, suc, _+_, _≤_, _<_}
 use mathlib.Core.Bool.{cond}
 use mathlib.Core.List.{List, _∷_, [], _++_, append-nil, append-assoc}
 use mathlib.Core.Path.{_≡_, refl, _∙_, ap, fun-ext, sym, ap₂}
@@ -14,7 +14,7 @@ use Rattle.in_place.specs.Layout.{size, offset, fieldOf, wholeSize, theR
 use Rattle.in_place.specs.Layout.{facilityOf, theOpens, thePadding, lastField, theClearances, theRoles, theTrusts, theLives, theKinds, theLevels}
 use Rattle.in_place.specs.Layout.{theCategories, theDatatypes, theRunnings, theOwners, theCurrents, theReadmarks, theWritemarks, theAutomatics}
 use Rattle.in_place.proofs.Stores.{store-inside, stored, before, length-store}
-use Rattle.in_place.specs.Fields.{Fields, putField, Bytes, BecomesUnique, countsPut, usersPut, objectsPut, processesPut}
+use Rattle.in_place.specs.Fields.{Fields, putField, BecomesUnique, countsPut, usersPut, objectsPut, processesPut}
 use Rattle.in_place.proofs.Changes.{field-length}
 use Rattle.in_place.proofs.Words.{same-words}
 use Rattle.labels.specs.Decisions.{at}

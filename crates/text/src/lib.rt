@@ -1,6 +1,4 @@
 // Text stored into a lent buffer. What does not fit is cut off: no function here has a condition.
-ghost use Prim.Native.Nat.{min};
-ghost use mathlib.Core.Path.{_≡_};
 ghost use Rattle.rules.specs.Lines.{decimal, field};
 ghost use Rattle.text.specs.Stored.{Stored};
 

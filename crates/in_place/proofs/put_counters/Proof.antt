@@ -1,11 +1,11 @@
 -- A counter for each user, until all are those of the list.
 use Prim.Native.Nat.{_≤_, _-_}
-use mathlib.Core.Path.{_≡_, _∙_, ap, refl, sym}
+use mathlib.Core.Path.{_≡_, _∙_}
 use lib.ListN.{length}
 use native.Mathlib.Omega.{arith}
 use borrow.Author.Needs.{needs}
 use Rattle.labels.specs.Decisions.{at}
-use Rattle.opens.specs.Laws.Loops.{puts, puts-none, puts-more, puts-whole}
+use Rattle.opens.specs.Laws.Loops.{puts}
 use Rattle.state.specs.State.{mostUsers, putRefusals}
 use Rattle.in_place.specs.Layout.{wholeSize, facilityAt}
 use Rattle.in_place.specs.Stores.{Becomes}

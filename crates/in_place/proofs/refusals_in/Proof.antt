@@ -1,6 +1,6 @@
 -- The counter's four bytes are its number.
 use Prim.Native.Nat.{_+_, _*_}
-use mathlib.Core.Path.{_≡_, _∙_, sym}
+use mathlib.Core.Path.{_∙_, sym}
 use borrow.Author.Needs.{needs}
 use Rattle.in_place.specs.Layout.{facilityAt, fieldOf, theRefusals}
 use Rattle.in_place.proofs.Words.{words-at}

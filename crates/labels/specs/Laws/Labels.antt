@@ -1,10 +1,10 @@
 -- The laws of labels. Everything else goes by these, and looks into no label.
 use Prim.Native.Nat.{_≤_, _<_, ℕ}
-use mathlib.Core.Path.{_≡_, ap}
+use mathlib.Core.Path.{_≡_}
 use mathlib.Core.Bool.{true, false}
 use lib.Dec.{leb, eqb}
 use native.Mathlib.Omega.{arith}
-use borrow.Author.Tests.{le-leb, leb-true, eqb-true, eq-eqb, leb-false, ne-eqb}
+use borrow.Author.Tests.{le-leb, leb-true, eqb-true, leb-false, ne-eqb}
 use Rattle.labels.specs.Labels.{unset, Label, leq, _⊑_, same, join, meet, bottom, lawful, top, given, label}
 use Rattle.labels.specs.Laws.Decisions.{by-test}
 

@@ -6,12 +6,12 @@ use mathlib.Core.Logic.{_≢_}
 use mathlib.Core.Bool.{cond}
 use lib.ListN.{length, set, length-set}
 use lib.Seq.{sets, getD-set-other, getD-set-same, ext-getD}
-use lib.Dec.{eqb, ltb}
+use lib.Dec.{eqb}
 use native.Mathlib.Omega.{arith}
 use native.Mathlib.Numerals.{add-one}
-use borrow.Author.Tests.{eq-eqb, ne-eqb, ltb-true, ltb-false}
+use borrow.Author.Tests.{eq-eqb, ne-eqb}
 use Rattle.labels.specs.Decisions.{at}
-use Rattle.labels.specs.Laws.Decisions.{by-eq, by-test}
+use Rattle.labels.specs.Laws.Decisions.{by-eq}
 use Rattle.opens.specs.Laws.Opens.{length-build, at-build}
 use Rattle.opens.specs.Opens.{mostOpens, build, mostObjects, place, mostProcesses, closeProcess, copyProcess, closeObject}
 

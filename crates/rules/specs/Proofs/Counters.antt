@@ -12,8 +12,7 @@ use Rattle.labels.specs.Decisions.{_and_, at}
 use Rattle.labels.specs.Laws.Decisions.{by-test, by-eq, clash}
 use Rattle.answers.specs.Outcomes.{denies, numberOf}
 use Rattle.opens.specs.Opens.{mostObjects}
-use Rattle.state.specs.State.{mostUsers, mostRefusals, refusalsOf, putProcess, putOpens, putObject, addObject, dropObject, putRefusals, oneMore}
-use Rattle.state.specs.State.{counted, openBy}
+use Rattle.state.specs.State.{mostUsers, mostRefusals, refusalsOf, putProcess, putOpens, putObject, addObject, dropObject, oneMore, openBy}
 use Rattle.rules.specs.Effects.{effectFrom, effectBy}
 use Rattle.rules.specs.Calls.{ownerIn, accepted, query, afterRefusal, after}
 use Rattle.rules.specs.Histories.{run, outcomes, Step, past, ownerAfter}
