@@ -29,19 +29,29 @@ static uint8_t or_unset(uint32_t n)
     return random_below(20) ? byte_below(n) : HV_UNSET;
 }
 
-/* A set-up with users of all roles and objects of all kinds. */
+/* Few flags, so that calls are accepted; most of them with add-inherited. */
+static uint8_t random_flags(void)
+{
+    static const uint8_t each[] = {HV_READ_ONLY, HV_NO_EXECUTE, HV_NO_DELETE, HV_SEARCH_ONLY};
+    return (uint8_t)((random_below(6) ? 0 : each[random_below(4)]) | (random_below(3) ? HV_ADD_INHERITED : 0));
+}
+
+/* A set-up with users of all roles and objects of all kinds, half of them in a directory before them. */
 static size_t random_setup(uint8_t *s, int switches)
 {
-    size_t at = 8, objects = 4 + random_below(30);
+    size_t at = 8, objects = 4 + random_below(30), directories = 0;
+    uint8_t parents[64];
     memset(s, 0, HV_SETUP_MOST);
-    memcpy(s, (uint8_t[4]){3, switches & 1, (switches >> 1) & 1, (switches >> 2) & 1}, 4);
+    memcpy(s, (uint8_t[5]){3, switches & 1, (switches >> 1) & 1, (switches >> 2) & 1, (switches >> 3) & 1}, 5);
     for (int u = 0; u < 4; u++, at += 8) {
         uint8_t clearance = byte_below(6), role = byte_below(3), trusted = random_below(5) == 0;
         memcpy(s + at, (uint8_t[4]){1, clearance, role, trusted}, 4);
     }
     for (size_t t = 0; t < objects; t++, at += 8) {
         uint8_t kind = byte_below(4), level = or_unset(6), category = or_unset(3), datatype = random_below(4) == 0;
-        memcpy(s + at, (uint8_t[5]){2, kind, level, category, datatype}, 5);
+        uint8_t flags = random_flags(), parent = directories && random_below(2) ? parents[random_below((uint32_t)directories)] : 0;
+        memcpy(s + at, (uint8_t[7]){2, kind, level, category, datatype, flags, parent}, 7);
+        if (kind == HV_DIRECTORY) parents[directories++] = (uint8_t)(t + 1);
     }
     return at;
 }
@@ -57,32 +67,52 @@ static void random_call(uint8_t c[4])
 
 static int same(const hv_facility *a, const hv_facility *b)
 {
-    return memcmp(a, b, offsetof(hv_facility, opens) + sizeof a->opens) == 0 && memcmp(a->refusals, b->refusals, sizeof a->refusals) == 0;
+    return memcmp(a, b, offsetof(hv_facility, opens) + sizeof a->opens) == 0 && memcmp(a->refusals, b->refusals, sizeof a->refusals) == 0
+        && a->ff == b->ff && memcmp(a->flags, b->flags, sizeof a->flags) == 0 && memcmp(a->parents, b->parents, sizeof a->parents) == 0;
 }
 
-/* Random calls on random set-ups: outcome, state, query and set-up written out are the same. */
+/* Set-ups written out, also after deletions, are the same. */
+static int same_written(const hv_facility *plain, const hv_facility *proved)
+{
+    uint8_t out[HV_SETUP_MOST], again[HV_SETUP_MOST];
+    hv_writing w = hv_write_setup(*proved, out, sizeof out);
+    return w.length == plain_write_setup(plain, again, sizeof again) && memcmp(out, again, w.length) == 0;
+}
+
+/* The effective flags of a live object, and where it has each of them from. */
+static int same_flags(const hv_facility *plain, const hv_facility *proved, uint8_t t)
+{
+    static const uint8_t each[] = {HV_READ_ONLY, HV_NO_EXECUTE, HV_NO_DELETE, HV_SEARCH_ONLY, HV_ADD_INHERITED};
+    if (t >= HV_OBJECTS || plain->lives[t] != 1) return 1;
+    for (size_t k = 0; k < sizeof each; k++)
+        if (hv_flag_source(*proved, t, each[k]) != plain_flag_source(plain, t, each[k])) return 0;
+    return hv_effective_flags(*proved, t) == plain_effective_flags(plain, t);
+}
+
+/* Random calls on random set-ups: outcome, state, query, flags and set-up written out are the same. Now and then an object is put open for
+ * both at a process that runs, so that a write meets a read-only one. */
 static int agree(void)
 {
     static hv_facility plain, proved;
     long accepted = 0;
     for (long k = 0, left = 0; k < TRIALS; k++, left--) {
         if (left == 0) {
-            uint8_t s[HV_SETUP_MOST], out[HV_SETUP_MOST];
+            uint8_t s[HV_SETUP_MOST];
             uint16_t index;
-            size_t n = random_setup(s, (int)random_below(8));
+            if (k > 0 && !same_written(&plain, &proved)) return printf("set-ups written out after calls differ\n"), 0;
+            size_t n = random_setup(s, (int)random_below(16));
             if (random_below(10) == 0) s[random_below((uint32_t)n)] = (uint8_t)random_below(256);
             uint8_t number = plain_read_setup(&plain, s, n, &index);
             hv_reading r = hv_read_setup(s, n);
             proved = r.facility;
             if (r.number != number || r.index != index || !same(&plain, &proved)) return printf("set-ups differ\n"), 0;
-            hv_writing w = hv_write_setup(proved, out, sizeof out);
-            uint8_t again[HV_SETUP_MOST];
-            if (w.length != plain_write_setup(&plain, again, sizeof again) || memcmp(out, again, w.length) != 0)
-                return printf("set-ups written out differ\n"), 0;
+            if (!same_written(&plain, &proved)) return printf("set-ups written out differ\n"), 0;
             left = 400;
         }
         uint8_t c[4];
         random_call(c);
+        if (random_below(8) == 0 && c[1] < HV_PROCESSES && c[2] < HV_OBJECTS && plain.runnings[c[1]] == 1 && plain.lives[c[2]] == 1)
+            plain.opens[c[1] * HV_OBJECTS + c[2]] = proved.opens[c[1] * HV_OBJECTS + c[2]] = HV_OPEN_READING | HV_OPEN_WRITING;
         hv_outcome q = hv_query(proved, c[0], c[1], c[2], c[3]);
         hv_enforced e = hv_enforce(proved, c[0], c[1], c[2], c[3]);
         hv_facility place = proved;
@@ -95,6 +125,8 @@ static int agree(void)
         accepted += o.number == 0;
         if (memcmp(&o, &e.outcome, sizeof o) != 0 || memcmp(&o, &q, sizeof o) != 0 || !same(&plain, &proved))
             return printf("call %d %d %d %d differs: %d and %d\n", c[0], c[1], c[2], c[3], o.number, e.outcome.number), 0;
+        if (!same_flags(&plain, &proved, c[2]) || (o.number == 0 && !same_flags(&plain, &proved, o.object)))
+            return printf("flags after call %d %d %d %d differ\n", c[0], c[1], c[2], c[3]), 0;
     }
     printf("agreement\t%d\t%ld\n", TRIALS, accepted);
     return 1;
@@ -270,6 +302,48 @@ static void in_place_setup(const list *l)
     }
 }
 
+enum { DEPTH = 127, BELOW = 127 };
+
+/* FF on, 127 directories, all with add-inherited, and a file, number 127, with it too; each in the one before, or none with a parent. */
+static size_t chain_setup(uint8_t *s, int parents)
+{
+    size_t at = 16;
+    memset(s, 0, HV_SETUP_MOST);
+    memcpy(s, (uint8_t[16]){3, 1, 1, 1, 1, 0, 0, 0, 1, 5}, 16);
+    for (int t = 0; t <= DEPTH; t++, at += 8) {
+        uint8_t kind = t < DEPTH ? HV_DIRECTORY : HV_FILE, parent = parents ? (uint8_t)t : 0;
+        memcpy(s + at, (uint8_t[7]){2, kind, 0, 0, 0, HV_ADD_INHERITED, parent}, 7);
+    }
+    return at;
+}
+
+/* The same calls on a file without a parent and on one below a chain of 127 directories. */
+static int chains(list *l)
+{
+    static const struct { uint8_t request; const char *name; int query; } each[] = {
+        {HV_WRITE_OPEN, "query of write-open", 1},
+        {HV_EXECUTE, "query of execute", 1},
+        {HV_WRITE_OPEN, "write-open", 0},
+        {HV_EXECUTE, "execute", 0},
+        {HV_READ_OPEN, "read-open, which no flag forbids", 0},
+    };
+    work *const asked[WORKS] = {proved_query_at, in_place_query, NULL, NULL};
+    work *const done[WORKS] = {proved_enforce_at, in_place_enforce, NULL, NULL};
+    for (size_t k = 0; k < sizeof each / sizeof each[0]; k++)
+        for (int deep = 0; deep < 2; deep++) {
+            uint8_t s[HV_SETUP_MOST];
+            uint16_t index;
+            if (plain_read_setup(&l->start, s, chain_setup(s, deep), &index) != 0) return 0;
+            for (uint8_t p = 0; p < 2; p++) plain_enforce(&l->start, HV_LOGIN, p, 0, 0);
+            l->n = CALLS;
+            for (int i = 0; i < CALLS; i++) memcpy(l->calls[i], (uint8_t[4]){each[k].request, (uint8_t)(i % 2), BELOW, 0}, 4);
+            for (uint8_t p = 0; p < 2; p++)
+                if (plain_query(&l->start, each[k].request, p, BELOW, 0).number != 0) return 0;
+            row(deep ? "deep" : "flat", each[k].name, l, each[k].query ? asked : done);
+        }
+    return 1;
+}
+
 int main(void)
 {
     static list l;
@@ -277,9 +351,9 @@ int main(void)
     uint16_t index;
     if (!agree()) return 1;
     seed = 7;
-    setup_length = random_setup(setup_bytes, 7);
+    setup_length = random_setup(setup_bytes, 15);
     plain_read_setup(&start, setup_bytes, setup_length, &index);
-    start.mac = start.fc = start.sim = 1;
+    start.mac = start.fc = start.sim = start.ff = 1;
     f = start;
     for (int k = 0; k < 300; k++) {
         uint8_t c[4];
@@ -307,10 +381,10 @@ int main(void)
         {{HV_CLONE, 0, 9, 0}, {HV_TERMINATE, 9, 0, 0}, "clone and terminate"},
     };
     static const uint8_t small[] = {
-        3, 1, 1, 1, 0, 0, 0, 0,
+        3, 1, 1, 1, 1, 0, 0, 0,
         1, 5, 0, 0, 0, 0, 0, 0,
         2, HV_DIRECTORY, 0, 0, 0, 0, 0, 0,
-        2, HV_FILE, 0, 0, 0, 0, 0, 0,
+        2, HV_FILE, 0, 0, 0, HV_ADD_INHERITED, 1, 0,
     };
     plain_read_setup(&start, small, sizeof small, &index);
     for (uint8_t p = 0; p < 2; p++) {
@@ -326,6 +400,7 @@ int main(void)
             if (plain_enforce(&g, l.calls[i][0], l.calls[i][1], l.calls[i][2], l.calls[i][3]).number != 0) return printf("%s is refused\n", each[k].name), 1;
         row("call", each[k].name, &l, enforces);
     }
+    if (!chains(&l)) return printf("a call below the chain is refused\n"), 1;
     make(&l, &f, ANY);
     row("whole", "enforce and line, in blocks", &l, blocks);
     l.n = 64;

@@ -26,10 +26,10 @@ void *counted_memmove(void *to, const void *from, size_t n)
 }
 
 static const uint8_t setup[] = {
-    3, 1, 0, 0, 0, 0, 0, 0,
+    3, 1, 0, 0, 1, 0, 0, 0,
     1, 2, HV_GENERAL, 0, 0, 0, 0, 0,
-    2, HV_DIRECTORY, 0, 0, 0, 0, 0, 0,
-    2, HV_FILE, 0, 0, 0, 0, 0, 0,
+    2, HV_DIRECTORY, 0, 0, 0, HV_NO_EXECUTE, 0, 0,
+    2, HV_FILE, 0, 0, 0, HV_ADD_INHERITED, 1, 0,
     2, HV_FILE, 2, 0, 0, 0, 0, 0,
 };
 
@@ -38,6 +38,7 @@ static const struct { const char *name; uint8_t call[4]; uint8_t number; } calls
     {"login", {HV_LOGIN, 0, 0, 0}, HV_ACCEPTED},
     {"refused", {HV_READ_OPEN, 0, 99, 0}, HV_NOT_LIVE},
     {"refused and counted", {HV_SET_LEVEL, 0, 0, 9}, HV_DENIED},
+    {"refused by a flag", {HV_EXECUTE, 0, 1, 0}, HV_DENIED},
     {"open", {HV_READ_WRITE_OPEN, 0, 1, 0}, HV_ACCEPTED},
     {"read", {HV_READ, 0, 1, 0}, HV_ACCEPTED},
     {"write", {HV_WRITE, 0, 1, 0}, HV_ACCEPTED},
@@ -58,6 +59,12 @@ int main(void)
     copies = 0;
     hv_query(f, HV_LOGIN, 0, 0, 0);
     printf("copies\tquery\t%d\n", copies);
+    copies = 0;
+    hv_effective_flags(f, 1);
+    printf("copies\teffective flags\t%d\n", copies);
+    copies = 0;
+    hv_flag_source(f, 1, HV_NO_EXECUTE);
+    printf("copies\tsource of a flag\t%d\n", copies);
     for (size_t k = 0; k < sizeof calls / sizeof calls[0]; k++) {
         const uint8_t *c = calls[k].call;
         copies = 0;

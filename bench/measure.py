@@ -10,6 +10,7 @@ import programs
 ROOT = programs.ROOT
 PAGE = os.path.join(ROOT, "docs", "PERFORMANCE.md")
 ASKED_IN_PLACE, ASKED_OF_PROGRAM = 2.0, 2.5
+CHAIN = 127                   # directories above the file; DEPTH in bench.c
 
 
 def pin():
@@ -68,6 +69,15 @@ def call_rows(rows):
                tenths(value[0]), tenths(plain_value[0]), ratio(value[0], plain_value[0]), spread(value, plain_value)]
 
 
+def chain_rows(flat, deep):
+    """The same call on a file without a parent and below 127 directories; nanoseconds for each directory, proved and plain."""
+    for (name, (at, plain, _, _)), (other, (deep_at, deep_plain, _, _)) in zip(flat, deep):
+        if name != other:
+            sys.exit("bench: %s beside %s" % (name, other))
+        yield [name, tenths(at[0]), tenths(plain[0]), ratio(at[0], plain[0]), tenths(deep_at[0]), tenths(deep_plain[0]), ratio(deep_at[0], deep_plain[0]),
+               "%.2f" % ((deep_at[0] - at[0]) / CHAIN), "%.2f" % ((deep_plain[0] - plain[0]) / CHAIN), spread(at, plain, deep_at, deep_plain)]
+
+
 def against(asked, taken, plain):
     return "%.2f, %s" % (taken / plain, "reached" if taken <= asked * plain else "missed")
 
@@ -102,6 +112,7 @@ def sections():
     measured = lines("bench")
     calls = [timed(line) for line in measured if line[0] == "call"]
     wholes = [timed(line) for line in measured if line[0] == "whole"]
+    flat, deep = ([timed(line) for line in measured if line[0] == sort] for sort in ("flat", "deep"))
     trials, taken = [line[1:] for line in measured if line[0] == "agreement"][0]
     copies = [line[1:] for line in lines("copies")]
     times, accepted, stack = programs.measured()
@@ -109,6 +120,8 @@ def sections():
         "agreement": "Measured on: %s. Agreement before it: %s random calls, %s accepted, none differs." % (machine(pinned, load), trials, taken),
         "calls": table(["ns for each call", "where it is: proved", "plain C", "ratio", "million/s", "spread", "by value: proved", "plain C",
                         "ratio", "spread"], call_rows(calls)),
+        "chains": table(["ns for each call, where it is", "no parent: proved", "plain C", "ratio", "below 127: proved", "plain C", "ratio",
+                         "for each directory: proved", "plain C", "spread"], chain_rows(flat, deep)),
         "wholes": table(["ns", "where it is: proved", "by value: proved", "plain C", "ratio where it is", "ratio by value", "spread"],
                         [[name, tenths(f[0][0]), tenths(f[2][0]), tenths(f[1][0]), ratio(f[0][0], f[1][0]), ratio(f[2][0], f[1][0]), spread(*f[:3])]
                          for name, f in wholes]),

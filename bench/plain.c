@@ -92,12 +92,46 @@ static inline uint8_t mac_answer(const hv_facility *f, uint8_t request, uint8_t 
     return class_answer(classes[f->kinds[t]][request], f->levels[t], clearance, m);
 }
 
-static inline uint8_t combined(uint8_t a, uint8_t b, uint8_t c) { return most(most(a, b), c); }
+/* The own flags and, as long as an object has 128 and a live parent, those of the next one up, without no-delete. */
+uint8_t plain_effective_flags(const hv_facility *f, uint8_t t)
+{
+    uint8_t flags = f->flags[t], own = flags;
+    while (own & HV_ADD_INHERITED) {
+        uint8_t parent = f->parents[t];
+        if (parent == 0 || parent > HV_OBJECTS || f->lives[parent - 1] != 1) break;
+        t = parent - 1;
+        own = f->flags[t];
+        flags |= own & ~HV_NO_DELETE;
+    }
+    return flags;
+}
+
+uint8_t plain_flag_source(const hv_facility *f, uint8_t t, uint8_t flag)
+{
+    for (;;) {
+        uint8_t own = f->flags[t], parent = f->parents[t];
+        if (own & flag) return t;
+        if (flag == HV_NO_DELETE || !(own & HV_ADD_INHERITED) || parent == 0 || parent > HV_OBJECTS || f->lives[parent - 1] != 1) return HV_NO_OBJECT;
+        t = parent - 1;
+    }
+}
+
+/* The flags that forbid a request of that class on an object of that kind. */
+static inline uint8_t forbidding(uint8_t kind, uint8_t class, uint8_t request)
+{
+    uint8_t flags = class == W || class == B || request == HV_WRITE ? HV_READ_ONLY : 0;
+    if (request == HV_EXECUTE) flags |= HV_NO_EXECUTE;
+    if (request == HV_DELETE) flags |= HV_NO_DELETE;
+    if (kind == HV_DIRECTORY && request != HV_SEARCH) flags |= HV_SEARCH_ONLY;
+    return flags;
+}
+
+static inline uint8_t combined(uint8_t a, uint8_t b, uint8_t c, uint8_t d) { return most(most(a, b), most(c, d)); }
 
 /* Number and answers, and the move that MAC makes where the call is accepted. */
 static inline hv_outcome judge(const hv_facility *f, uint8_t request, uint8_t p, uint8_t t, uint8_t e, struct move *m)
 {
-    hv_outcome o = {questions(f, request, p, t, e), HV_NOT_CARED, HV_NOT_CARED, HV_NOT_CARED, HV_NOT_CARED, HV_NO_OBJECT};
+    hv_outcome o = {questions(f, request, p, t, e), HV_NOT_CARED, HV_NOT_CARED, HV_NOT_CARED, HV_NOT_CARED, HV_NO_OBJECT, HV_NOT_CARED};
     if (o.number != HV_ACCEPTED) return o;
     *m = (struct move){f->currents[p], f->readmarks[p], f->writemarks[p], f->automatics[p]};
     if (f->mac == 1) o.mac = mac_answer(f, request, p, t, e, m);
@@ -107,8 +141,12 @@ static inline hv_outcome judge(const hv_facility *f, uint8_t request, uint8_t p,
         uint8_t class = classes[f->kinds[t]][request];
         if (f->sim == 1 && f->datatypes[t] == 1 && (class == W || class == B || request == HV_WRITE))
             o.sim = role == HV_SECURITY_OFFICER ? HV_GRANTED : HV_NOT_GRANTED;
+        if (f->ff == 1) {
+            uint8_t wanted = forbidding(f->kinds[t], class, request);
+            if (wanted != 0 && (plain_effective_flags(f, t) & wanted) != 0) o.ff = HV_NOT_GRANTED;
+        }
     }
-    o.combined = combined(o.mac, o.fc, o.sim);
+    o.combined = combined(o.mac, o.fc, o.sim, o.ff);
     if (o.combined == HV_NOT_GRANTED) o.number = HV_DENIED;
     else if (o.combined == HV_UNDEFINED) o.number = HV_UNDEFINED_ANSWER;
     else if (request == HV_CREATE) o.object = f->entered;
@@ -167,6 +205,8 @@ static void act(hv_facility *f, uint8_t request, uint8_t p, uint8_t t, uint8_t e
         f->levels[f->entered] = f->currents[p];
         f->categories[f->entered] = 0;
         f->datatypes[f->entered] = 0;
+        f->flags[f->entered] = e < 2 ? HV_ADD_INHERITED : 0;
+        f->parents[f->entered] = e < 2 ? t + 1 : 0;
         f->entered++;
         return;
     }
@@ -217,9 +257,11 @@ static uint8_t record_number(const hv_facility *f, const uint8_t *r, size_t i)
     if (i == 0 ? r[0] != 3 : !(r[0] == 2 || (r[0] == 1 && f->entered == 0))) return HV_SETUP_PLACE;
     if ((r[0] == 1 && f->users >= HV_USERS) || (r[0] == 2 && f->entered >= HV_OBJECTS)) return HV_SETUP_FULL;
     switch (r[0]) {
-    case 3: return r[1] <= 1 && r[2] <= 1 && r[3] <= 1 && zeros(r, 4) ? 0 : HV_SETUP_BYTE;
+    case 3: return r[1] <= 1 && r[2] <= 1 && r[3] <= 1 && r[4] <= 1 && zeros(r, 5) ? 0 : HV_SETUP_BYTE;
     case 1: return r[1] <= 15 && r[2] <= 2 && r[3] <= 1 && zeros(r, 4) ? 0 : HV_SETUP_BYTE;
-    default: return r[1] <= 3 && (r[2] <= 15 || r[2] == HV_UNSET) && (r[3] <= 2 || r[3] == HV_UNSET) && r[4] <= 1 && zeros(r, 5) ? 0 : HV_SETUP_BYTE;
+    default:
+        if (r[1] > 3 || (r[2] > 15 && r[2] != HV_UNSET) || (r[3] > 2 && r[3] != HV_UNSET) || r[4] > 1 || (r[5] & 0x70) != 0 || r[7] != 0) return HV_SETUP_BYTE;
+        return r[6] == 0 || (r[6] <= f->entered && f->kinds[r[6] - 1] == HV_DIRECTORY) ? 0 : HV_SETUP_PARENT;
     }
 }
 
@@ -241,6 +283,7 @@ uint8_t plain_read_setup(hv_facility *f, const uint8_t *bytes, size_t length, ui
             f->mac = r[1];
             f->fc = r[2];
             f->sim = r[3];
+            f->ff = r[4];
             break;
         case 1:
             f->clearances[f->users] = r[1];
@@ -254,6 +297,8 @@ uint8_t plain_read_setup(hv_facility *f, const uint8_t *bytes, size_t length, ui
             f->levels[f->entered] = r[2];
             f->categories[f->entered] = r[3];
             f->datatypes[f->entered] = r[4];
+            f->flags[f->entered] = r[5];
+            f->parents[f->entered] = r[6];
             f->entered++;
         }
     }
@@ -263,13 +308,16 @@ uint8_t plain_read_setup(hv_facility *f, const uint8_t *bytes, size_t length, ui
 size_t plain_write_setup(const hv_facility *f, uint8_t *out, size_t length)
 {
     size_t live = 0, at = 8;
-    for (int t = 0; t < f->entered; t++) live += f->lives[t] == 1;
+    uint8_t renumbered[HV_OBJECTS + 1] = {0};   /* by the old number plus 1 the new one plus 1; 0 for none and for a deleted object */
+    for (int t = 0; t < f->entered; t++)
+        if (f->lives[t] == 1) renumbered[t + 1] = (uint8_t)++live;
     if (length < 8 + (f->users + live) * 8) return 0;
-    memcpy(out, (uint8_t[8]){3, f->mac, f->fc, f->sim}, 8);
+    memcpy(out, (uint8_t[8]){3, f->mac, f->fc, f->sim, f->ff}, 8);
     for (int u = 0; u < f->users; u++, at += 8) memcpy(out + at, (uint8_t[8]){1, f->clearances[u], f->roles[u], f->trusts[u]}, 8);
     for (int t = 0; t < f->entered; t++)
         if (f->lives[t] == 1) {
-            memcpy(out + at, (uint8_t[8]){2, f->kinds[t], f->levels[t], f->categories[t], f->datatypes[t]}, 8);
+            uint8_t parent = f->parents[t] <= HV_OBJECTS ? renumbered[f->parents[t]] : 0;
+            memcpy(out + at, (uint8_t[8]){2, f->kinds[t], f->levels[t], f->categories[t], f->datatypes[t], f->flags[t], parent}, 8);
             at += 8;
         }
     return at;

@@ -20,8 +20,16 @@ CALLS, MODEL_CALLS, ROUNDS, MODEL_ROUNDS = 1000000, 100000, 25, 5
 
 
 def setup(rng):
-    return (switches_record(1, 1, 1) + b"".join(user_record(rng.randrange(6), rng.randrange(3), n == 0) for n in range(4))
-            + b"".join(object_record(rng.randrange(4), rng.randrange(6), rng.randrange(3), rng.randrange(4) == 0) for _ in range(24)))
+    """All four modules on, few flags, half of the objects in a directory before them."""
+    data = switches_record(1, 1, 1, 1) + b"".join(user_record(rng.randrange(6), rng.randrange(3), n == 0) for n in range(4))
+    directories = []
+    for number in range(24):
+        kind = rng.randrange(4)
+        flags = rng.choice((0, 0, 0, 0, 0, 1, 2, 4, 8)) + rng.choice((0, 128, 128))
+        parent = rng.choice(directories) if directories and rng.randrange(2) else 0
+        data += object_record(kind, rng.randrange(6), rng.randrange(3), rng.randrange(4) == 0, flags, parent)
+        directories += [number + 1] if kind == 1 else []
+    return data
 
 
 def calls(rng, count):

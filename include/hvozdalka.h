@@ -7,7 +7,8 @@
  * threads at once.
  *
  * Two things are kept apart: a USER has a `clearance`, fixed by the set-up; a PROCESS has a `current` level, a read mark and a write
- * mark, which move with its calls.
+ * mark, which move with its calls. So are an object's own flags, which it was entered with, and its effective ones, which it has from them
+ * and from the directories above it.
  *
  * A facility is a value: hv_enforce takes one and returns the next. hv_enforce_at changes one where it is, which is faster; it is proved
  * to do the same.
@@ -81,7 +82,8 @@ enum hv_number {
     HV_SETUP_PLACE = 15,             /* set-up: a record's kind does not fit its place */
     HV_SETUP_FULL = 16,              /* set-up: more than 16 users or 128 objects */
     HV_SETUP_BYTE = 17,              /* set-up: a byte is not allowed */
-    HV_NO_ROOM = 18                  /* writing a set-up: the buffer does not hold it */
+    HV_NO_ROOM = 18,                 /* writing a set-up: the buffer does not hold it */
+    HV_SETUP_PARENT = 19             /* set-up: byte 6 of an object is neither 0 nor the number plus 1 of an earlier directory */
 };
 
 /* Answers of the modules. */
@@ -93,10 +95,20 @@ enum hv_role { HV_GENERAL = 0, HV_SECURITY_OFFICER = 1, HV_SYSTEM_ADMINISTRATOR 
 enum hv_marks { HV_OPEN_READING = 1, HV_OPEN_WRITING = 2 };
 #define HV_UNSET 255
 
+/* Flags of an object, added up in a byte. */
+enum hv_flag {
+    HV_READ_ONLY = 1,                /* forbids W, B and write */
+    HV_NO_EXECUTE = 2,               /* forbids execute */
+    HV_NO_DELETE = 4,                /* forbids delete; never inherited */
+    HV_SEARCH_ONLY = 8,              /* of a directory: forbids every request on it but search */
+    HV_ADD_INHERITED = 128           /* the parent's effective flags, without no-delete, are added to the object's own */
+};
+
 /* No object was given. */
 #define HV_NO_OBJECT 255
 
-/* The whole state: switches, users, objects, processes, opens and the counters of refusals. Three bytes before `refusals` are padding. */
+/* The whole state: switches, users, objects, processes, opens, the counters of refusals, flags and parents. Three bytes before `refusals` and
+ * three at the end are padding. */
 typedef struct hv_facility {
     uint8_t mac, fc, sim;                       /* switches, each 0 or 1 */
     uint8_t users;                              /* how many users there are */
@@ -117,10 +129,14 @@ typedef struct hv_facility {
     uint8_t automatics[HV_PROCESSES];
     uint8_t opens[HV_PROCESSES * HV_OBJECTS];   /* at process * 128 + object */
     uint32_t refusals[HV_USERS];                /* by user number: calls refused with 12 or 13 of processes that the user owned */
+    uint8_t ff;                                 /* the fourth switch, 0 or 1 */
+    uint8_t flags[HV_OBJECTS];                  /* by object number: its own flags */
+    uint8_t parents[HV_OBJECTS];                /* by object number: the parent directory's number plus 1, or 0 for none */
 } hv_facility;
 
-/* What a call came to: refusal number, answers of the modules and their combination, and the object that an accepted create gave (else 255). */
-typedef struct hv_outcome { uint8_t number, mac, fc, sim, combined, object; } hv_outcome;
+/* What a call came to: refusal number, answers of MAC, FC and SIM, the combination of all four modules' answers, the object that an accepted
+ * create gave (else 255), and the answer of FF, the file flags. */
+typedef struct hv_outcome { uint8_t number, mac, fc, sim, combined, object, ff; } hv_outcome;
 
 typedef struct hv_enforced { hv_facility facility; hv_outcome outcome; } hv_enforced;
 typedef struct hv_reading { hv_facility facility; uint8_t number; uint16_t index; } hv_reading;
@@ -129,15 +145,16 @@ typedef struct hv_printed { hv_facility facility; size_t length; } hv_printed;
 
 typedef struct hv_user_record { uint8_t clearance, role, trusted; } hv_user_record;
 typedef struct hv_process_record { uint8_t running, owner, current, readmark, writemark, automatic; } hv_process_record;
-typedef struct hv_object_record { uint8_t live, kind, level, category, datatype; } hv_object_record;
-typedef struct hv_summary_record { uint8_t mac, fc, sim, users, entered; } hv_summary_record;
+typedef struct hv_object_record { uint8_t live, kind, level, category, datatype, flags, parent; } hv_object_record;
+typedef struct hv_summary_record { uint8_t mac, fc, sim, users, entered, ff; } hv_summary_record;
 
-/* Reads a set-up. Number 0 and the fresh facility; or the number 14 to 17, the index of the record refused (0 with 14), and the facility of
- * a switches record with all off. [readSetup, rules/Setup] */
+/* Reads a set-up. Number 0 and the fresh facility; or the number 14 to 17 or 19, the index of the record refused (0 with 14), and the facility
+ * of a switches record with all off. [readSetup, rules/Setup] */
 hv_reading hv_read_setup(const uint8_t *bytes, size_t length);
 
-/* Writes a facility's set-up into `out`: switches, users, live objects in order. Number 0 and the length, and later bytes are untouched; or
- * number 18 and length 0 where `out` is too short, and it is untouched. [writeSetup, rules/Setup] */
+/* Writes a facility's set-up into `out`: switches, users, live objects in order, each with its parent by the new number (0 where the parent
+ * was deleted). Number 0 and the length, and later bytes are untouched; or number 18 and length 0 where `out` is too short, and it is
+ * untouched. [writeSetup, rules/Setup] */
 hv_writing hv_write_setup(hv_facility f, uint8_t *out, size_t length);
 
 /* What hv_enforce would answer; nothing changes. [query, rules/Calls] */
@@ -147,7 +164,7 @@ hv_outcome hv_query(hv_facility f, uint8_t request, uint8_t process, uint8_t tar
  * who owns the calling process. [enforce, rules/Calls] */
 hv_enforced hv_enforce(hv_facility f, uint8_t request, uint8_t process, uint8_t target, uint8_t extra);
 
-/* The same of a facility where it is, without a copy. After hv_enforce_at the bytes are those of the facility after the call, and the three
+/* The same of a facility where it is, without a copy. After hv_enforce_at the bytes are those of the facility after the call, and the six
  * bytes of padding are untouched. [query, after, rules/Calls, of facilityAt, in_place/Layout] */
 hv_outcome hv_query_at(const hv_facility *f, uint8_t request, uint8_t process, uint8_t target, uint8_t extra);
 hv_outcome hv_enforce_at(hv_facility *f, uint8_t request, uint8_t process, uint8_t target, uint8_t extra);
@@ -170,6 +187,14 @@ size_t hv_put_block_at(hv_facility *f, uint64_t first, const uint8_t *calls, siz
 hv_user_record hv_user(hv_facility f, uint8_t user);
 hv_process_record hv_process(hv_facility f, uint8_t process);
 hv_object_record hv_object(hv_facility f, uint8_t object);
+
+/* The effective flags of object t, whether FF is on or off: its own and, with HV_ADD_INHERITED among these, the effective ones of its parent
+ * without no-delete, where the parent is not deleted; 0 for a number above 127. [effective, rules/FileFlags] */
+uint8_t hv_effective_flags(hv_facility f, uint8_t t);
+
+/* Where object t has a flag from, one of hv_flag: the number of the object whose own flag it is, t itself or the nearest object up the chain;
+ * HV_NO_OBJECT where the flag is not among t's effective ones. [flagSource, rules/FileFlags] */
+uint8_t hv_flag_source(hv_facility f, uint8_t t, uint8_t flag);
 
 /* How a process has an object open: 1 for reading, 2 for writing, 3 for both, else 0; 0 for a number that is none. [openMarks, hvozdalka/Numbers] */
 uint8_t hv_open_marks(hv_facility f, uint8_t process, uint8_t object);

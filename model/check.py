@@ -8,9 +8,10 @@ import tempfile
 
 import model
 import run
-from model import (CLONE, CLOSE, CREATE, DELETE, LOGIN, READ, READ_OPEN,
-                   READ_WRITE_OPEN, SEND_SIGNAL, SET_LEVEL, TERMINATE, WRITE,
-                   WRITE_OPEN)
+import words
+from model import (CLONE, CLOSE, CREATE, DELETE, EXECUTE, LOGIN, READ, READ_OPEN,
+                   READ_WRITE_OPEN, SEND_SIGNAL, SET_LEVEL, TERMINATE,
+                   WRITE, WRITE_OPEN)
 
 passed = 0
 
@@ -21,16 +22,16 @@ def check(got, wanted, what):
     passed += 1
 
 
-def switches(mac, fc, sim):
-    return bytes([3, mac, fc, sim, 0, 0, 0, 0])
+def switches(mac, fc, sim, ff=0):
+    return bytes([3, mac, fc, sim, ff, 0, 0, 0])
 
 
 def user(clearance, role=0, trusted=0):
     return bytes([1, clearance, role, trusted, 0, 0, 0, 0])
 
 
-def thing(kind, level, category=0, data_type=0):
-    return bytes([2, kind, level, category, data_type, 0, 0, 0])
+def thing(kind, level, category=0, data_type=0, flags=0, parent=0):
+    return bytes([2, kind, level, category, data_type, flags, parent, 0])
 
 
 def after(setup, *calls):
@@ -128,7 +129,7 @@ for e in range(4):
             outcome = tuple(model.enforce(facility, (CREATE, 0, 0, e)))
             check((outcome[0], outcome[5]), (0, number), "create to the 128th")
         check(tuple(model.enforce(facility, (CREATE, 0, 0, e))),
-              (10, 0, 0, 0, 0, 255), "the 129th")
+              (10, 0, 0, 0, 0, 255, 0), "the 129th")
 check(model.read_setup(b"")[:2], (14, 0), "set-up of 0 bytes")
 
 # --- Table 4.7 by its ten rows --------------------------------------------
@@ -169,28 +170,35 @@ check(refusal(FULL[:8 * 17] + thing(0, 0) * 128), (0, 0), "128 objects")
 check(refusal(SMALL[:16] + user(16) + user(0) + switches(0, 0, 0)), (17, 2),
       "the earlier record first")
 ALLOWED = {
-    0: [(0, 1), (0, 1), (0, 1), (0,), (0,), (0,), (0,)],
+    0: [(0, 1), (0, 1), (0, 1), (0, 1), (0,), (0,), (0,)],
     1: [range(16), (0, 1, 2), (0, 1), (0,), (0,), (0,), (0,)],
-    3: [range(4), list(range(16)) + [255], (0, 1, 2, 255), (0, 1), (0,), (0,), (0,)],
+    3: [range(4), list(range(16)) + [255], (0, 1, 2, 255), (0, 1),
+        list(range(16)) + list(range(128, 144)), (0,), (0,)],
 }
 for index, fields in ALLOWED.items():
     for place, allowed in enumerate(fields):
         for value in range(256):
             damaged = bytearray(SMALL)
             damaged[8 * index + 1 + place] = value
-            check(refusal(bytes(damaged)), (0, 0) if value in allowed else (17, index),
+            # a parent that does not fit is 19
+            number = 19 if (index, place) == (3, 5) else 17
+            check(refusal(bytes(damaged)), (0, 0) if value in allowed else (number, index),
                   "byte %d of record %d" % (place + 1, index))
 
 # --- Round trips of set-ups -----------------------------------------------
 
 rng = random.Random(0)
 for _ in range(200):
-    setup = switches(rng.randrange(2), rng.randrange(2), rng.randrange(2))
+    setup = switches(*(rng.randrange(2) for _ in range(4)))
     for _ in range(rng.randrange(17)):
         setup += user(rng.randrange(16), rng.randrange(3), rng.randrange(2))
-    for _ in range(rng.choice((0, 5, 128))):
-        setup += thing(rng.randrange(4), rng.choice(list(range(16)) + [255]),
-                       rng.choice((0, 1, 2, 255)), rng.randrange(2))
+    directories = []
+    for number in range(rng.choice((0, 5, 128))):
+        kind = rng.randrange(4)
+        setup += thing(kind, rng.choice(list(range(16)) + [255]),
+                       rng.choice((0, 1, 2, 255)), rng.randrange(2),
+                       rng.randrange(16) + rng.choice((0, 128)), rng.choice([0] + directories))
+        directories += [number + 1] if kind == 1 else []
     number, _, facility = model.read_setup(setup)
     check((number, model.setup_bytes(facility)), (0, setup), "round trip")
     tight = bytearray(b"\xa5" * (len(setup) - 1))
@@ -222,7 +230,7 @@ for role in range(3):
                   (READ_OPEN, 0, 0, 0)), (0, 0), "SIM of a read")
 MIXED = switches(1, 1, 0) + user(5) + thing(0, 4, 1)
 facility = after(MIXED, IN)
-check(tuple(model.enforce(facility, (READ_OPEN, 0, 0, 0))), (12, 1, 2, 0, 2, 255),
+check(tuple(model.enforce(facility, (READ_OPEN, 0, 0, 0))), (12, 1, 2, 0, 2, 255, 0),
       "MAC's yes, FC's no")
 check((facility.processes[0].current, facility.processes[0].read_mark,
        facility.refusals), (0, 0, [1] + [0] * 15), "no move, one refusal")
@@ -263,6 +271,132 @@ check(answers(FILES, PAIR + [(READ_OPEN, 1, 2, 0)], (SEND_SIGNAL, 0, 1, 0)), NO,
 check(answers(FILES, PAIR + [(READ_OPEN, 1, 2, 0), (READ_OPEN, 0, 2, 0),
                              (DELETE, 0, 2, 0)], (CLOSE, 1, 2, 0)), (6, 0),
       "delete drops the object")
+
+# --- Ticket 2: file flags ---------------------------------------------------
+
+RO, NX, ND, SO, ADD = 1, 2, 4, 8, 128
+# The requests of each kind, after "Classes by kind", and those that each flag forbids on it
+HAS = {0: {3, 5, 6, 7, 12, 13, 14, 19, 20}, 1: {4, 5, 12, 15, 19}, 2: {0, 3, 5, 12, 14, 19}, 3: {1, 5, 8, 9, 10, 11}}
+FORBIDDEN = {RO: {0: {5, 6, 14, 19, 20}, 1: {4, 5, 19}, 2: {0, 5, 14, 19}, 3: {1, 5, 10, 11}},
+             NX: {0: {7}, 1: set(), 2: set(), 3: set()},
+             ND: {kind: {5} for kind in range(4)},
+             SO: {0: set(), 1: {4, 5, 12, 19}, 2: set(), 3: set()},
+             ADD: {kind: set() for kind in range(4)}}
+
+
+def judged(setup, request, t, e=0):
+    """number, FF's and combined answer of user 0's process, which has object t open both ways"""
+    facility = after(setup, IN)
+    facility.processes[0].open_reading.add(t)
+    facility.processes[0].open_writing.add(t)
+    asked = tuple(model.query(facility, (request, 0, t, e)))
+    done = tuple(model.enforce(facility, (request, 0, t, e)))
+    assert asked == done
+    return done[0], done[6], done[4]
+
+
+def effective(setup, *calls):
+    """effective flags of the live objects, in order"""
+    facility = after(setup, *calls)
+    return [model.effective_flags(facility, n) for n, obj in enumerate(facility.objects) if obj.live]
+
+
+FF_ON = switches(0, 0, 0, 1) + user(9)
+for flags in list(range(16)) + list(range(128, 144)):
+    for kind in range(4):
+        for request in HAS[kind]:
+            forbidden = any(flags & flag and request in FORBIDDEN[flag][kind] for flag in FORBIDDEN)
+            check(judged(FF_ON + thing(kind, 0, 0, 0, flags), request, 0),
+                  (12, 2, 2) if forbidden else (0, 0, 0), "own flags, request %d on kind %d" % (request, kind))
+            # inherited: all but no-delete, and only with the object's own 128
+            above = FF_ON + thing(1, 0, 0, 0, flags)
+            inherited = any(flags & flag and request in FORBIDDEN[flag][kind] for flag in (RO, NX, SO))
+            check(judged(above + thing(kind, 0, 0, 0, ADD, 1), request, 1),
+                  (12, 2, 2) if inherited else (0, 0, 0), "inherited flags, request %d on kind %d" % (request, kind))
+            check(judged(above + thing(kind, 0, 0, 0, 0, 1), request, 1), (0, 0, 0), "a parent without 128")
+            check(judged(above + thing(kind, 0, 0, 0, ADD, 0), request, 1), (0, 0, 0), "128 without a parent")
+            check(judged(switches(0, 0, 0, 0) + user(9) + thing(kind, 0, 0, 0, flags), request, 0), (0, 0, 0), "FF off")
+# create with e 2 or 3 has no object target, so t is not looked at
+SHUT = FF_ON + thing(1, 0, 0, 0, RO + NX + ND + SO)
+for e in range(4):
+    check(judged(SHUT, CREATE, 0, e), (12, 2, 2) if e < 2 else (0, 0, 0), "create in a shielded directory")
+check(judged(switches(1, 0, 0, 1) + user(9, 0, 1) + thing(0, 0, 0, 0, RO), WRITE_OPEN, 0), (12, 2, 2), "FF and a trusted owner")
+check(judged(switches(1, 0, 0, 1) + user(9) + thing(0, 255, 0, 0, RO), WRITE_OPEN, 0), (13, 2, 3), "undefined beats FF")
+check(judged(switches(1, 1, 1, 1) + user(9) + thing(0, 0), WRITE_OPEN, 0), (0, 0, 1), "FF does not care")
+for request, p, t, e, number in ((22, 0, 0, 0, 1), (5, 32, 0, 0, 2), (5, 1, 0, 0, 3), (5, 0, 9, 0, 6), (15, 0, 1, 0, 7), (4, 0, 0, 4, 8), (19, 0, 1, 0, 9)):
+    check(tuple(model.query(after(SHUT + thing(0, 0, 0, 0, RO), IN), (request, p, t, e))), (number, 0, 0, 0, 0, 255, 0), "numbers 1 to 11")
+# a refusal by FF moves nothing and is counted
+facility = after(switches(1, 0, 0, 1) + user(5) + thing(0, 4, 0, 0, NX), IN)
+check(tuple(model.enforce(facility, (EXECUTE, 0, 0, 0))), (12, 1, 0, 0, 2, 255, 2), "MAC's yes, FF's no")
+check((facility.processes[0].current, facility.refusals), (0, [1] + [0] * 15), "FF's no: no move, one refusal")
+# the chain ends at an object without 128
+CHAIN = FF_ON + thing(1, 0, 0, 0, NX + ND) + thing(1, 0, 0, 0, SO, 1) + thing(1, 0, 0, 0, ADD + ND, 2) + thing(0, 0, 0, 0, ADD, 3)
+check(effective(CHAIN), [NX + ND, SO, ADD + ND + SO, ADD + SO], "a chain that an object without 128 ends")
+CHAIN = FF_ON + thing(1, 0, 0, 0, NX + ND) + thing(1, 0, 0, 0, ADD, 1) + thing(1, 0, 0, 0, ADD + ND, 2) + thing(0, 0, 0, 0, ADD, 3)
+check(effective(CHAIN), [NX + ND, ADD + NX, ADD + ND + NX, ADD + NX], "a chain")
+check([[model.flag_source(after(CHAIN), t, flag) for flag in (RO, NX, ND, SO, ADD)] for t in range(4)],
+      [[None, 0, 0, None, None], [None, 0, None, None, 1], [None, 0, 2, None, 2], [None, 0, None, None, 3]], "where each flag comes from")
+DEEP = FF_ON + thing(1, 0, 0, 0, 15) + b"".join(thing(1, 0, 0, 0, ADD, n) for n in range(1, 127)) + thing(0, 0, 0, 0, ADD, 127)
+check(effective(DEEP), [15] + [ADD + 11] * 127, "a chain of 127 directories")
+check(judged(DEEP, EXECUTE, 127), (12, 2, 2), "execute below 127 directories")
+check(judged(DEEP, DELETE, 126), (12, 2, 2), "delete below 126 directories")
+# created objects
+ROOM = FF_ON + thing(1, 0, 0, 0, NX)
+for e in range(4):
+    facility = after(ROOM, IN, (CREATE, 0, 0, e))
+    check((facility.objects[1].flags, facility.objects[1].parent, model.effective_flags(facility, 1)),
+          (ADD, 0, ADD + NX) if e < 2 else (0, None, 0), "created")
+MADE = [IN, (CREATE, 0, 0, 0), (CREATE, 0, 0, 1), (CREATE, 0, 2, 0)]
+for number in (1, 3):
+    facility = after(ROOM, *MADE)
+    check(tuple(model.enforce(facility, (EXECUTE, 0, number, 0))), (12, 0, 0, 0, 2, 255, 2), "a created file inherits at once")
+check(effective(ROOM, *MADE), [NX, ADD + NX, ADD + NX, ADD + NX], "created in a created directory")
+# a deleted parent counts as none, for the flags and for the writer
+check(effective(ROOM, *MADE, (DELETE, 0, 0, 0)), [ADD, ADD, ADD], "the first of the chain deleted")
+check(effective(ROOM, *MADE, (DELETE, 0, 2, 0)), [NX, ADD + NX, ADD], "the middle of the chain deleted")
+facility = after(ROOM, *MADE, (DELETE, 0, 2, 0), (EXECUTE, 0, 3, 0))
+check(model.setup_bytes(facility), ROOM + thing(0, 0, 0, 0, ADD, 1) + thing(0, 0, 0, 0, ADD, 0), "a deleted parent is written as 0")
+check(model.setup_bytes(after(ROOM, *MADE, (DELETE, 0, 1, 0))), ROOM + thing(1, 0, 0, 0, ADD, 1) + thing(0, 0, 0, 0, ADD, 2),
+      "parents by their new numbers")
+check(model.setup_bytes(after(FF_ON + thing(2, 0) + thing(1, 0, 0, 0, RO) + thing(0, 0, 0, 0, ADD, 2), IN, (DELETE, 0, 0, 0))),
+      FF_ON + thing(1, 0, 0, 0, RO) + thing(0, 0, 0, 0, ADD, 1), "an object before the parent deleted")
+# 19: the parent is no earlier directory
+KINDS = FF_ON + b"".join(thing(kind, 0) for kind in range(4))
+for value in range(256):
+    for kind in range(4):
+        check(refusal(KINDS + thing(kind, 0, 0, 0, 0, value) + thing(1, 0)), (0, 0) if value in (0, 2) else (19, 6), "parent")
+    check(refusal(FF_ON + thing(1, 0) * 127 + thing(1, 0, 0, 0, 0, value)), (0, 0) if value < 128 else (19, 129),
+          "parent of the 128th of directories")
+    flags = (0, 0) if value & 0x70 == 0 else (17, 6)
+    check(refusal(KINDS + thing(0, 0, 0, 0, value, 2)), flags, "flags")
+    check(refusal(KINDS + thing(0, 0, 0, 0, value, 1)), (19, 6) if flags == (0, 0) else flags, "19 after 17 on the same record")
+check(refusal(KINDS + thing(0, 0, 0, 0, 0, 1) + thing(9, 0)), (19, 6), "19 before a later 17")
+check(refusal(KINDS + thing(9, 0) + thing(0, 0, 0, 0, 0, 1)), (17, 6), "17 before a later 19")
+check(refusal(KINDS + thing(0, 0, 0, 0, 0, 1)[:7] + b"\1"), (17, 6), "byte 7 before the parent")
+check(refusal(FF_ON + thing(1, 0) * 128 + thing(0, 0, 0, 0, 0, 255)), (16, 130), "16 before 19")
+check(refusal(KINDS + b"\4" + thing(0, 0, 0, 0, 0, 255)[1:]), (15, 6), "15 before 19")
+check(model.read_setup(switches(0, 0, 0, 1))[2].ff_on, True, "the fourth switch")
+# the round trip keeps each live object's effective flags and what FF answers
+for _ in range(150):
+    setup = switches(0, 0, 0, rng.randrange(2)) + user(9)
+    directories = []
+    for number in range(rng.choice((3, 20, 127))):
+        kind = rng.choice((0, 1, 1, 2))
+        setup += thing(kind, 0, 0, 0, rng.choice((0, RO, NX, ND, SO, NX)) + rng.choice((0, ADD, ADD)), rng.choice([0] + directories[-3:]))
+        directories += [number + 1] if kind == 1 else []
+    facility = after(setup, IN)
+    for _ in range(30):
+        model.enforce(facility, (rng.choice((CREATE, DELETE, DELETE)), 0, rng.randrange(len(facility.objects)), rng.randrange(3)))
+    again = model.setup_bytes(facility)
+    kept = [model.effective_flags(facility, n) for n, obj in enumerate(facility.objects) if obj.live]
+    check((model.read_setup(again)[0], effective(again)), (0, kept), "effective flags after a round trip")
+    check(model.setup_bytes(model.read_setup(again)[2]), again, "written again")
+# in words
+check(words.tell(FF_ON + thing(1, 0, 0, 0, RO + ND) + thing(0, 255, 0, 0, ADD + NX, 1), bytes([21, 0, 0, 0, 20, 0, 1, 0]))[1],
+      "2 process 0 (user 0, clearance 9, current 0, marks 0 to 15): write-open object 1 (file, level unset, read-only, no-execute, add-inherited): "
+      "MAC not cared, FC not cared, SIM not cared, FF not granted by read-only of object 0, combined not granted: 12 not granted; "
+      "then user 0, clearance 9, current 0, marks 0 to 15; refusals of user 0: 1", "FF in words")
+check(words.tell(KINDS + thing(0, 0, 0, 0, 0, 1), b""), ["set-up refused at record 6: 19 parent is no earlier directory"], "19 in words")
 
 # --- Matter ---------------------------------------------------------------
 

@@ -1,7 +1,8 @@
 """Compares the run program, and the run in words, with the model: python3 -B model/fuzz.py SEED CALLS
 
-Fresh set-ups and lists of calls from the seed, until CALLS calls were made: those of vectors.py, the same with set-ups and calls
-damaged, cut short or made longer, and lists of random bytes. The programs are target/bin/run and target/bin/run_words (`rt check run
+Fresh set-ups and lists of calls from the seed, until CALLS calls were made: those of vectors.py, among them set-ups full of parents, with
+chains as deep as 127 directories, creates at every depth and deleted directories; the same with set-ups and calls damaged, cut short or
+made longer, and lists of random bytes. The programs are target/bin/run and target/bin/run_words (`rt check run
 run_words` builds them). Then the hostile inputs: no `setup.bin`, a folder of that name, one that is empty, cut, too long or unreadable,
 no calls, and an output that nobody reads. Ends with the number of comparisons, or at the first difference, which it leaves in a folder.
 """
@@ -19,6 +20,7 @@ import words
 
 ROOT = os.path.join(os.path.dirname(os.path.abspath(__file__)), "..")
 RUN = os.path.abspath(os.path.join(ROOT, "target", "bin", "run"))
+TREES = 0.4                   # the share of set-ups full of parents
 WORDS = os.path.abspath(os.path.join(ROOT, "target", "bin", "run_words"))
 
 
@@ -68,9 +70,10 @@ def damage(rng, data):
 
 
 def cases(rng):
-    """Sets of cases without end, each with what its calls are."""
+    """Cases without end: a set-up and calls."""
     while True:
-        for _, setup, calls in vectors.make_cases(rng, 60):
+        for _ in range(60):
+            setup, calls = vectors.tree_case(rng, rng.randrange(48)) if rng.random() < TREES else vectors.some_case(rng)
             yield setup, calls
             yield setup, damage(rng, calls)
             if rng.random() < 0.3:
@@ -106,7 +109,7 @@ def hostile(folder):
     if os.geteuid() != 0:
         check(refused)
     os.chmod(name, 0o644)
-    setup = b"".join((vectors.switches_record(1, 1, 1), vectors.user_record(2, 0, 0)))
+    setup = b"".join((vectors.switches_record(1, 1, 1, 1), vectors.user_record(2, 0, 0)))
     place(folder, setup)
     check(b"", b"")
     check(b"short\n", b"\1")

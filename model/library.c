@@ -1,7 +1,10 @@
 /* Drives the library for model/through_library.py. Standard input: cases, each a set-up behind its length in two bytes, the sixteen counters of
- * refusals to begin with, in four bytes each, then calls behind their number in four bytes; all low byte first. Standard output: of each set-up
- * its number and the record's index in two bytes; of each call of an accepted one the outcome's six bytes, the sixteen counters, and the calling
- * process's record. Each call is made by value and where the facility is; a difference between the two ends the program with status 1. */
+ * refusals to begin with, in four bytes each, then calls behind their number in four bytes; all low byte first. Before a call of request 254 C
+ * puts marks into the facility: the low two bits of e, for process p and object t, where p runs and t is live. Standard output: of each set-up its number and
+ * the record's index in two bytes; of each call of an accepted one the outcome's seven bytes, the sixteen counters, the calling process's record,
+ * the target object's record, its effective flags, and for each flag the object that it comes from; then the set-up written out after the calls,
+ * behind its length in two bytes. Each call is made by value and where the facility is; a difference between the two ends the program with
+ * status 1, a set-up written out that is not read back as it is with status 3. */
 #include <stdio.h>
 #include <stdlib.h>
 #include <string.h>
@@ -37,11 +40,23 @@ static void put_words(const uint32_t *words, int n)
 
 static int same(const hv_facility *a, const hv_facility *b)
 {
-    return memcmp(a, b, offsetof(hv_facility, opens) + sizeof a->opens) == 0 && memcmp(a->refusals, b->refusals, sizeof a->refusals) == 0;
+    return memcmp(a, b, offsetof(hv_facility, opens) + sizeof a->opens) == 0 && memcmp(a->refusals, b->refusals, sizeof a->refusals) == 0
+        && a->ff == b->ff && memcmp(a->flags, b->flags, sizeof a->flags) == 0 && memcmp(a->parents, b->parents, sizeof a->parents) == 0;
+}
+
+static void put_object(hv_facility f, uint8_t t)
+{
+    hv_object_record o = hv_object(f, t);
+    put((uint8_t[7]){o.live, o.kind, o.level, o.category, o.datatype, o.flags, o.parent}, 7);
+    put((uint8_t[1]){hv_effective_flags(f, t)}, 1);
+    put((uint8_t[5]){hv_flag_source(f, t, HV_READ_ONLY), hv_flag_source(f, t, HV_NO_EXECUTE), hv_flag_source(f, t, HV_NO_DELETE),
+                     hv_flag_source(f, t, HV_SEARCH_ONLY), hv_flag_source(f, t, HV_ADD_INHERITED)}, 5);
 }
 
 static void one_call(hv_facility *f, const uint8_t *c)
 {
+    if (c[0] == 254 && c[1] < HV_PROCESSES && c[2] < HV_OBJECTS && f->runnings[c[1]] == 1 && f->lives[c[2]] == 1)
+        f->opens[c[1] * HV_OBJECTS + c[2]] = c[3] & 3;
     hv_outcome q = hv_query_at(f, c[0], c[1], c[2], c[3]);
     hv_enforced e = hv_enforce(*f, c[0], c[1], c[2], c[3]);
     hv_outcome o = hv_enforce_at(f, c[0], c[1], c[2], c[3]);
@@ -49,9 +64,24 @@ static void one_call(hv_facility *f, const uint8_t *c)
     hv_process_record p = hv_process(*f, c[1]);
     uint32_t refusals[HV_USERS];
     for (uint8_t u = 0; u < HV_USERS; u++) refusals[u] = hv_refusals(*f, u);
-    put((uint8_t[6]){o.number, o.mac, o.fc, o.sim, o.combined, o.object}, 6);
+    put((uint8_t[7]){o.number, o.mac, o.fc, o.sim, o.combined, o.object, o.ff}, 7);
     put_words(refusals, HV_USERS);
     put((uint8_t[6]){p.running, p.owner, p.current, p.readmark, p.writemark, p.automatic}, 6);
+    put_object(*f, c[2]);
+}
+
+/* The set-up written out, and whether it is read back: number 0, and written out again the same bytes. */
+static void put_setup(hv_facility f)
+{
+    uint8_t out[HV_SETUP_MOST], again[HV_SETUP_MOST];
+    hv_writing w = hv_write_setup(f, out, sizeof out);
+    if (w.number != HV_ACCEPTED) exit(3);
+    hv_reading r = hv_read_setup(out, w.length);
+    if (r.number != HV_ACCEPTED) exit(3);
+    hv_writing v = hv_write_setup(r.facility, again, sizeof again);
+    if (v.number != HV_ACCEPTED || v.length != w.length || memcmp(out, again, w.length) != 0) exit(3);
+    put((uint8_t[2]){w.length & 255, w.length >> 8 & 255}, 2);
+    put(out, w.length);
 }
 
 int main(void)
@@ -71,6 +101,7 @@ int main(void)
             need(b, 4);
             if (r.number == HV_ACCEPTED) one_call(&r.facility, b);
         }
+        if (r.number == HV_ACCEPTED) put_setup(r.facility);
     }
     return fflush(stdout) ? 2 : 0;
 }

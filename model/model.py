@@ -1,7 +1,8 @@
 """The station's access decision facility, as an executable model.
 
-Written from the paper (01-scope.md) alone, to be held beside it; "reading N"
-names an entry of readings.md, section "Document 01".
+Written from the papers alone (01-scope.md and, of 02-change-requests.md, the
+requests that have landed), to be held beside them; "reading N" names an entry
+of readings.md.
 """
 
 # --- Set-up records -------------------------------------------------------
@@ -15,6 +16,8 @@ FILE, DIRECTORY, CHANNEL, CONTROL = 0, 1, 2, 3
 GENERAL, SECURITY, SYSTEM = 0, 1, 2          # categories, and roles by number
 OFFICER = 1                                  # role: security officer
 NO_TYPE, SECURITY_INFORMATION = 0, 1         # data types
+READ_ONLY, NO_EXECUTE, NO_DELETE, SEARCH_ONLY, ADD_INHERITED = 1, 2, 4, 8, 128
+FLAGS = (READ_ONLY, NO_EXECUTE, NO_DELETE, SEARCH_ONLY, ADD_INHERITED)
 
 # --- State ----------------------------------------------------------------
 
@@ -52,11 +55,13 @@ class User:
 
 
 class Object:
-    def __init__(self, kind, level, category, data_type):
+    def __init__(self, kind, level, category, data_type, flags=0, parent=None):
         self.kind = kind
         self.level = level
         self.category = category
         self.data_type = data_type
+        self.flags = flags                   # its own ones
+        self.parent = parent                 # an object number, also of a deleted one, or None
         self.live = True
 
 
@@ -84,28 +89,31 @@ class Process:
 
 
 class Outcome:
-    """What a call returns: number, three answers, combined one, object."""
+    """What a call returns: number, four answers, combined one, object."""
 
-    def __init__(self, number, mac, fc, sim, combined, object_number):
+    def __init__(self, number, mac, fc, sim, ff, combined, object_number):
         self.number = number
         self.mac = mac
         self.fc = fc
         self.sim = sim
+        self.ff = ff
         self.combined = combined
         self.object_number = object_number
 
     def __iter__(self):
+        """in the order of the struct for C"""
         return iter((self.number, self.mac, self.fc, self.sim, self.combined,
-                     self.object_number))
+                     self.object_number, self.ff))
 
 
 class Facility:
     """Set-up records: "A fresh facility has no process, no refusals counted"."""
 
-    def __init__(self, mac_on=False, fc_on=False, sim_on=False):
+    def __init__(self, mac_on=False, fc_on=False, sim_on=False, ff_on=False):
         self.mac_on = mac_on
         self.fc_on = fc_on
         self.sim_on = sim_on
+        self.ff_on = ff_on
         self.users = []
         self.objects = []                    # all entered, deleted ones included
         self.processes = [None] * PROCESSES  # None: does not run
@@ -124,11 +132,13 @@ def read_setup(data):
     facility = None
     for record in records(data):
         if record[0] == KIND_SWITCHES:
-            facility = Facility(record[1] == 1, record[2] == 1, record[3] == 1)
+            facility = Facility(*(byte == 1 for byte in record[1:5]))
         elif record[0] == KIND_USER:
             facility.users.append(User(record[1], record[2], record[3] == 1))
         else:
-            facility.objects.append(Object(*record[1:5]))
+            # "the parent directory's number plus 1, or 0 for none"
+            parent = record[6] - 1 if record[6] != 0 else None
+            facility.objects.append(Object(*record[1:6], parent))
     return 0, 0, facility
 
 
@@ -141,6 +151,7 @@ def setup_questions(data):
     if len(data) == 0 or len(data) % RECORD != 0 or len(data) > MAX_SETUP:
         return 14, 0
     users = objects = 0
+    kinds = []                               # of the objects before the record
     # "15 to 17 for each record in turn": reading 9.
     for index, record in enumerate(records(data)):
         kind = record[0]
@@ -152,8 +163,14 @@ def setup_questions(data):
             return 16, index
         if not bytes_allowed(record):
             return 17, index
+        # "19, the parent is no earlier directory, judged after 17 on the same
+        # record": reading 18.
+        if kind == KIND_OBJECT and not parent_fits(record[6], kinds):
+            return 19, index
         users += kind == KIND_USER
-        objects += kind == KIND_OBJECT
+        if kind == KIND_OBJECT:
+            objects += 1
+            kinds.append(record[1])
     return 0, 0
 
 
@@ -166,20 +183,26 @@ def kind_fits(kind, index, objects_before):
     return kind == KIND_OBJECT
 
 
+def parent_fits(byte, kinds_before):
+    return byte == 0 or (byte - 1 < len(kinds_before)
+                         and kinds_before[byte - 1] == DIRECTORY)
+
+
 def bytes_allowed(record):
     if record[0] == KIND_SWITCHES:
-        used = 4
-        fields = all(record[i] in (0, 1) for i in (1, 2, 3))
+        used = 5
+        fields = all(record[i] in (0, 1) for i in (1, 2, 3, 4))
     elif record[0] == KIND_USER:
         used = 4
         fields = (record[1] <= TOP_LEVEL and record[2] in (0, 1, 2)
                   and record[3] in (0, 1))
     else:
-        used = 5
+        used = 7                             # byte 6 alone never gives 17: reading 18
         fields = (record[1] in (FILE, DIRECTORY, CHANNEL, CONTROL)
                   and (record[2] <= TOP_LEVEL or record[2] == UNSET)
                   and record[3] in (GENERAL, SECURITY, SYSTEM, UNSET)
-                  and record[4] in (NO_TYPE, SECURITY_INFORMATION))
+                  and record[4] in (NO_TYPE, SECURITY_INFORMATION)
+                  and record[5] & ~sum(FLAGS) == 0)
     # "All other bytes are 0"
     return fields and all(byte == 0 for byte in record[used:])
 
@@ -189,14 +212,19 @@ def bytes_allowed(record):
 def setup_bytes(facility):
     """"exactly switches, users, live objects in order"."""
     out = bytearray([KIND_SWITCHES, facility.mac_on, facility.fc_on,
-                     facility.sim_on, 0, 0, 0, 0])
+                     facility.sim_on, facility.ff_on, 0, 0, 0])
     for user in facility.users:
         out += bytes([KIND_USER, user.clearance, user.role, user.trusted,
                       0, 0, 0, 0])
+    # "the writer puts out parents by their new numbers"
+    live = [number for number, obj in enumerate(facility.objects) if obj.live]
+    new_numbers = {number: new for new, number in enumerate(live)}
     for obj in facility.objects:
         if obj.live:
+            parent = live_parent(facility, obj)
             out += bytes([KIND_OBJECT, obj.kind, obj.level, obj.category,
-                          obj.data_type, 0, 0, 0])
+                          obj.data_type, obj.flags,
+                          0 if parent is None else new_numbers[parent] + 1, 0])
     return bytes(out)
 
 
@@ -207,6 +235,35 @@ def write_setup(facility, buffer):
         return 18, 0
     buffer[:len(out)] = out
     return 0, len(out)
+
+
+# --- File flags -----------------------------------------------------------
+
+def live_parent(facility, obj):
+    """"A deleted parent counts as none"."""
+    if obj.parent is None or not facility.objects[obj.parent].live:
+        return None
+    return obj.parent
+
+
+def effective_flags(facility, number):
+    """"the own ones and, with 128, the parent's effective ones without
+    no-delete"; reading 19: the object's own 128."""
+    obj = facility.objects[number]
+    parent = live_parent(facility, obj)
+    if obj.flags & ADD_INHERITED == 0 or parent is None:
+        return obj.flags
+    return obj.flags | (effective_flags(facility, parent) & ~NO_DELETE)
+
+
+def flag_source(facility, number, flag):
+    """The object whose own flag it is that an object has among its effective
+    ones; None where it has not got it."""
+    if effective_flags(facility, number) & flag == 0:
+        return None
+    while facility.objects[number].flags & flag == 0:
+        number = facility.objects[number].parent
+    return number
 
 
 # --- Calls: the questions in order ----------------------------------------
@@ -368,6 +425,36 @@ def sim_answer(facility, request, p, t, e):
     return NOT_GRANTED
 
 
+def forbids(flag, kind, request):
+    """Whether a flag that is in effect forbids a request that the object's
+    kind has."""
+    if flag == READ_ONLY:
+        # "W, B and write"; write is request 19 on every kind
+        return CLASSES[kind][request] in ("W", "B") or request == WRITE
+    if flag == NO_EXECUTE:
+        return request == EXECUTE
+    if flag == NO_DELETE:
+        return request == DELETE
+    if flag == SEARCH_ONLY:
+        # reading 19: a directory as the target, not the files under it
+        return kind == DIRECTORY and request != SEARCH
+    return False
+
+
+def forbidding_flags(facility, request, t):
+    """The effective flags of object t that forbid the request."""
+    effective = effective_flags(facility, t)
+    return [flag for flag in FLAGS
+            if effective & flag and forbids(flag, facility.objects[t].kind, request)]
+
+
+def ff_answer(facility, request, t, e):
+    """"A forbidden request is not granted; all else isn't cared about." """
+    if not facility.ff_on or not needs_object(request, e):
+        return NOT_CARED
+    return NOT_GRANTED if forbidding_flags(facility, request, t) else NOT_CARED
+
+
 # --- Query and enforce ----------------------------------------------------
 
 def decide(facility, call):
@@ -375,20 +462,21 @@ def decide(facility, call):
     request, p, t, e = call
     number = questions_before_modules(facility, request, p, t, e)
     if number != 0:
-        # "numbers 1 to 11 come with four not-cared answers"
+        # "numbers 1 to 11 come with four not-cared answers", now five
         return Outcome(number, NOT_CARED, NOT_CARED, NOT_CARED, NOT_CARED,
-                       NO_OBJECT), None
+                       NOT_CARED, NO_OBJECT), None
     mac, moved = mac_answer(facility, request, p, t, e)
     fc = fc_answer(facility, request, p, t, e)
     sim = sim_answer(facility, request, p, t, e)
-    combined = combine(combine(mac, fc), sim)
+    ff = ff_answer(facility, request, t, e)
+    combined = combine(combine(combine(mac, fc), sim), ff)
     if combined == NOT_GRANTED:
-        return Outcome(12, mac, fc, sim, combined, NO_OBJECT), None
+        return Outcome(12, mac, fc, sim, ff, combined, NO_OBJECT), None
     if combined == UNDEFINED:
-        return Outcome(13, mac, fc, sim, combined, NO_OBJECT), None
+        return Outcome(13, mac, fc, sim, ff, combined, NO_OBJECT), None
     # "An accepted create returns the next object number, all else 255."
     given = len(facility.objects) if request == CREATE else NO_OBJECT
-    return Outcome(0, mac, fc, sim, combined, given), moved
+    return Outcome(0, mac, fc, sim, ff, combined, given), moved
 
 
 def query(facility, call):
@@ -420,7 +508,12 @@ def enforce(facility, call):
     elif request == CREATE:
         # "level the process's current one after its move, category general,
         # data type none"
-        facility.objects.append(Object(e, processes[p].current, GENERAL, NO_TYPE))
+        created = Object(e, processes[p].current, GENERAL, NO_TYPE)
+        # "A created file or directory gets its directory as parent and flag
+        # 128, other created objects neither."
+        if e in (FILE, DIRECTORY):
+            created.flags, created.parent = ADD_INHERITED, t
+        facility.objects.append(created)
     elif request == DELETE:
         facility.objects[t].live = False
         for process in processes:

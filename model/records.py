@@ -1,13 +1,14 @@
 """Set-up records, eight bytes each."""
 
 
-def switches_record(mac, fc, sim):
-    return bytes([3, mac, fc, sim, 0, 0, 0, 0])
+def switches_record(mac, fc, sim, ff=0):
+    return bytes([3, mac, fc, sim, ff, 0, 0, 0])
 
 
 def user_record(clearance, role, trusted):
     return bytes([1, clearance, role, trusted, 0, 0, 0, 0])
 
 
-def object_record(kind, level, category, data_type):
-    return bytes([2, kind, level, category, data_type, 0, 0, 0])
+def object_record(kind, level, category, data_type, flags=0, parent=0):
+    """`parent` is the directory's number plus 1, or 0."""
+    return bytes([2, kind, level, category, data_type, flags, parent, 0])

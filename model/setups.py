@@ -2,15 +2,17 @@
 
 from records import object_record, switches_record, user_record
 
-BASE = [switches_record(1, 1, 1), user_record(15, 2, 1), user_record(0, 0, 0),
-        object_record(0, 15, 2, 1), object_record(3, 255, 255, 0)]
+# The last object lies in the directory before it.
+BASE = [switches_record(1, 1, 1, 1), user_record(15, 2, 1), user_record(0, 0, 0),
+        object_record(1, 15, 2, 1, 143, 0), object_record(3, 255, 255, 0, 128, 1)]
+VALUES = (0, 1, 2, 3, 4, 8, 15, 16, 32, 64, 128, 129, 130, 143, 144, 254, 255)
 
 
 def damaged():
     """Each byte of one record of each kind, at every value around its ranges; every other byte must be 0."""
-    for place in (0, 1, 3):
+    for place in (0, 1, 3, 4):
         for byte in range(8):
-            for value in (0, 1, 2, 3, 4, 15, 16, 254, 255):
+            for value in VALUES:
                 record = bytearray(BASE[place])
                 record[byte] = value
                 yield b"".join(BASE[:place]) + bytes(record) + b"".join(BASE[place + 1:])
@@ -44,5 +46,27 @@ def places():
     yield BASE[0] + BASE[1] + BASE[3] + user_record(16, 0, 0)
 
 
+def chain(depth, flags, kind):
+    """Directories, each in the one before, all with 128 but the first, which has the flags; below them an object of that kind."""
+    inside = [object_record(1, 0, 0, 0, 128, n) for n in range(1, depth)]
+    return switches_record(1, 0, 0, 1) + user_record(0, 0, 1) + b"".join(
+        [object_record(1, 0, 0, 0, flags, 0)] + inside + [object_record(kind, 0, 0, 0, 128, depth)])
+
+
+def parents():
+    """Chains of every length around the limits; parents that are no directory, not earlier, or not entered; 17 before 19."""
+    for depth in (1, 2, 3, 126, 127):
+        for kind in range(4):
+            yield chain(depth, 15, kind)
+    yield chain(128, 15, 0)
+    head = switches_record(0, 0, 0, 0) + b"".join(object_record(kind, 0, 0, 0) for kind in range(4))
+    for kind in range(4):
+        for parent in range(8):
+            yield head + object_record(kind, 0, 0, 0, 0, parent) + object_record(1, 0, 0, 0)
+    yield head + object_record(0, 0, 0, 0, 16, 1)
+    yield head + object_record(0, 0, 0, 0, 0, 1) + object_record(0, 0, 0, 0, 16, 0)
+    yield head + object_record(0, 0, 0, 0, 0, 255)[:7] + b"\1"
+
+
 def all_setups():
-    return [*damaged(), *lengths(), *places()]
+    return [*damaged(), *lengths(), *places(), *parents()]

@@ -1,21 +1,29 @@
 """The story of docs/LEVELS.md: python3 -B model/story.py FOLDER writes FOLDER/data/setup.bin and FOLDER/stdin.
 
-Two windows of one user, the restricted hull lines and the open yard folder; then a clone, a new login and a user of a lower clearance.
+Two windows of one user, the restricted hull lines and the open yard folder; then a clone, a new login and a user of a lower clearance; then,
+in a third window of the first user, directories that flags shield.
 """
 
 import os
 import sys
 
-from model import CLONE, CREATE, DIRECTORY, FILE, LOGIN, READ_OPEN, SET_LEVEL, TERMINATE, WRITE, WRITE_OPEN
+from model import (ADD_INHERITED, CLONE, CREATE, DELETE, DIRECTORY, EXECUTE, FILE, LOGIN, NO_EXECUTE, READ_ONLY, READ_OPEN, SET_LEVEL, TERMINATE,
+                   WRITE, WRITE_OPEN)
 from records import object_record, switches_record, user_record
 
 DESIGNER, FITTER = 0, 1
 YARD_FOLDER, YARD_NOTES, HULL_LINES = 0, 1, 2
-LEFT, RIGHT, COPY, OTHER = 0, 1, 2, 3
+RELEASED_DRAWINGS, RELEASED_SHEET, MEASURING_TOOLS, RULER, OWN_RULER, NEW_RULER = 3, 4, 5, 6, 7, 8
+LEFT, RIGHT, COPY, OTHER, SHIELD = 0, 1, 2, 3, 4
 
-SETUP = (switches_record(1, 0, 0)
+SETUP = (switches_record(1, 0, 0, 1)
          + user_record(3, 0, 0) + user_record(1, 0, 0)
-         + object_record(DIRECTORY, 0, 0, 0) + object_record(FILE, 0, 0, 0) + object_record(FILE, 3, 0, 0))
+         + object_record(DIRECTORY, 0, 0, 0) + object_record(FILE, 0, 0, 0) + object_record(FILE, 3, 0, 0)
+         + object_record(DIRECTORY, 0, 0, 0, READ_ONLY)
+         + object_record(FILE, 0, 0, 0, ADD_INHERITED, RELEASED_DRAWINGS + 1)
+         + object_record(DIRECTORY, 0, 0, 0, NO_EXECUTE)
+         + object_record(FILE, 0, 0, 0, ADD_INHERITED, MEASURING_TOOLS + 1)
+         + object_record(FILE, 0, 0, 0, 0, MEASURING_TOOLS + 1))
 
 CALLS = [
     (LOGIN, LEFT, 0, DESIGNER),
@@ -35,6 +43,17 @@ CALLS = [
     (WRITE_OPEN, LEFT, YARD_NOTES, 0),
     (LOGIN, OTHER, 0, FITTER),
     (READ_OPEN, OTHER, HULL_LINES, 0),
+    (LOGIN, SHIELD, 0, DESIGNER),
+    (READ_OPEN, SHIELD, RELEASED_SHEET, 0),
+    (WRITE_OPEN, SHIELD, RELEASED_SHEET, 0),
+    (CREATE, SHIELD, RELEASED_DRAWINGS, FILE),
+    (EXECUTE, SHIELD, RULER, 0),
+    (EXECUTE, SHIELD, OWN_RULER, 0),             # it has no add-inherited
+    (CREATE, SHIELD, MEASURING_TOOLS, FILE),     # becomes NEW_RULER
+    (EXECUTE, SHIELD, NEW_RULER, 0),
+    (DELETE, SHIELD, MEASURING_TOOLS, 0),
+    (EXECUTE, SHIELD, RULER, 0),                 # a deleted parent counts as none
+    (EXECUTE, SHIELD, NEW_RULER, 0),
 ]
 
 

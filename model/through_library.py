@@ -1,9 +1,12 @@
 """Compares the library for C with the model: python3 -B model/through_library.py SEED CALLS
 
 Set-ups and lists of calls from the seed, until CALLS calls were made, through model/library.c: those of fuzz.py, and as many in which many users
-and objects meet calls that the modules judge. Each call is made by value and where the facility is. After each call its outcome, the sixteen counters of refusals and the calling process are compared. Half of the lists begin
-with counters that C put into the facility, at their stop, next to it, or anywhere. `rt staticlib hvozdalka` makes the library; cc, or what CC
-names, builds the program. Ends with the number of calls, or at the first difference.
+and objects meet calls that the modules judge. Each call is made by value and where the facility is. After each call its outcome, the sixteen
+counters of refusals, the calling process and the target object are compared, the object with its effective flags and where each comes from; after
+the last call the set-up written out, which must be read back. Half of the lists begin with counters that C put into the facility, at their stop,
+next to it, or anywhere; in some C puts in marks of open objects, so that a write meets a read-only file, which no list of calls has open for
+writing. `rt staticlib hvozdalka` makes the library; cc, or what CC names, builds the program. Ends with the number of calls, or at the first
+difference.
 """
 
 import collections
@@ -20,7 +23,8 @@ from records import object_record, switches_record, user_record
 ROOT = os.path.abspath(os.path.join(os.path.dirname(os.path.abspath(__file__)), ".."))
 PROGRAM = os.path.join(ROOT, "target", "c", "library")
 STOP = model.COUNTER_STOP
-CALL_BYTES = 6 + 4 * model.MAX_USERS + 6
+OPENS = 254                   # a call of this request, which is none: C puts in marks before it
+CALL_BYTES = 7 + 4 * model.MAX_USERS + 6 + 7 + 1 + 5
 BATCH = 100
 
 
@@ -47,15 +51,23 @@ def counters(rng):
 def busy(rng):
     """Many users and objects, and calls most of which the modules judge."""
     users, objects, processes = rng.randrange(1, 17), rng.randrange(4, 24), rng.randrange(1, 9)
-    setup = switches_record(*(rng.random() < 0.8 for _ in range(3)))
+    setup = switches_record(*(rng.random() < 0.8 for _ in range(4)))
     setup += b"".join(user_record(rng.randrange(6), rng.randrange(3), rng.random() < 0.1) for _ in range(users))
-    setup += b"".join(object_record(rng.randrange(4), rng.choice((0, 1, 2, 3, 4, 5, model.UNSET)), rng.choice((0, 0, 1, 2, model.UNSET)),
-                                    rng.random() < 0.3) for _ in range(objects))
+    directories = [0]
+    for number in range(objects):
+        kind = rng.randrange(4)
+        flags = rng.choice((0, rng.randrange(16))) + rng.choice((0, model.ADD_INHERITED))
+        setup += object_record(kind, rng.choice((0, 1, 2, 3, 4, 5, model.UNSET)), rng.choice((0, 0, 1, 2, model.UNSET)), rng.random() < 0.3, flags,
+                               rng.choice(directories))
+        directories += [number + 1] if kind == model.DIRECTORY else []
     calls = [(model.LOGIN, p, 0, rng.randrange(users)) for p in range(processes)]
     for _ in range(rng.randrange(20, 200)):
         request = rng.choice(tuple(range(22)) + (model.READ_OPEN, model.WRITE_OPEN, model.SET_LEVEL, model.SEND_SIGNAL))
         extra = rng.randrange(users) if request == model.LOGIN else rng.randrange(4)
-        calls.append((request, rng.randrange(processes + 1), rng.randrange(objects + 1), extra))
+        p, t = rng.randrange(processes + 1), rng.randrange(objects + 1)
+        if request in (model.READ, model.WRITE, model.CLOSE) and rng.random() < 0.5:
+            calls.append((OPENS, p, t, rng.randrange(4)))
+        calls.append((request, p, t, extra))
     return setup, b"".join(map(bytes, calls))
 
 
@@ -67,6 +79,24 @@ def record(facility, p):
     return bytes((1, process.owner, process.current, process.read_mark, process.write_mark, process.automatic))
 
 
+def object_bytes(facility, t):
+    """An object as C is given it, its effective flags, and where each flag comes from."""
+    if t >= len(facility.objects):
+        return bytes(8) + bytes([model.NO_OBJECT] * 5)
+    obj = facility.objects[t]
+    sources = [model.flag_source(facility, t, flag) for flag in model.FLAGS]
+    return bytes((obj.live, obj.kind, obj.level, obj.category, obj.data_type, obj.flags, 0 if obj.parent is None else obj.parent + 1,
+                  model.effective_flags(facility, t), *(model.NO_OBJECT if source is None else source for source in sources)))
+
+
+def put_marks(facility, p, t, marks):
+    """What C does before a call of request OPENS."""
+    if p < model.PROCESSES and facility.processes[p] is not None and t < len(facility.objects) and facility.objects[t].live:
+        for held, bit in ((facility.processes[p].open_reading, 1), (facility.processes[p].open_writing, 2)):
+            held.discard(t)
+            held |= {t} if marks & bit else set()
+
+
 def expected(setup, begin, calls, seen):
     number, index, facility = model.read_setup(setup)
     out = [bytes((number, index % 256, index // 256))]
@@ -74,11 +104,18 @@ def expected(setup, begin, calls, seen):
     for i in range(0, len(calls) - 3, 4) if number == 0 else ():
         call = tuple(calls[i:i + 4])
         before = list(facility.refusals)
+        if call[0] == OPENS:
+            put_marks(facility, *call[1:])
         outcome = model.enforce(facility, call)
-        out.append(bytes(outcome) + words(facility.refusals) + record(facility, call[1]))
+        out.append(bytes(outcome) + words(facility.refusals) + record(facility, call[1]) + object_bytes(facility, call[2]))
         if outcome.number in (12, 13):
             seen["denied"] += 1
             seen["at a stop"] += facility.refusals == before
+            seen["by FF"] += outcome.ff == model.NOT_GRANTED
+            seen["write"] += outcome.ff == model.NOT_GRANTED and call[0] == model.WRITE and facility.objects[call[2]].kind != model.DIRECTORY
+    if number == 0:
+        written = model.setup_bytes(facility)
+        out.append(len(written).to_bytes(2, "little") + written)
     return b"".join(out)
 
 
@@ -87,7 +124,8 @@ def compare(cases, seen):
                      + calls[:len(calls) // 4 * 4] for setup, begin, calls in cases)
     run = subprocess.run([PROGRAM], input=given, stdout=subprocess.PIPE)
     if run.returncode != 0:
-        sys.exit("differs: by value and where the facility is, or the program failed: status %d" % run.returncode)
+        sys.exit({1: "differs: by value and where the facility is", 3: "differs: a set-up written out is not read back"}.get(
+            run.returncode, "the program failed: status %d" % run.returncode))
     at = 0
     for setup, begin, calls in cases:
         want = expected(setup, begin, calls, seen)
@@ -95,8 +133,8 @@ def compare(cases, seen):
         at += len(want)
         if got != want:
             k = next(i for i in range(len(want)) if got[i:i + 1] != want[i:i + 1])
-            sys.exit("differs at call %d, byte %d:\nset-up %s\ncounters %s\ncalls %s" % (
-                (k - 3) // CALL_BYTES, (k - 3) % CALL_BYTES, setup.hex(), begin, calls.hex()))
+            sys.exit("differs at call %d of %d, byte %d:\nset-up %s\ncounters %s\ncalls %s" % (
+                (k - 3) // CALL_BYTES, len(calls) // 4, (k - 3) % CALL_BYTES, setup.hex(), begin, calls.hex()))
     if at != len(run.stdout):
         sys.exit("differs: bytes behind the last call")
 
@@ -116,8 +154,8 @@ def main():
             batch = []
         if made >= most:
             break
-    print("seed %d: %d calls in %d lists through the library, %d denied, %d of them at a stop; none differs; %.0f s" % (
-        seed, made, lists, seen["denied"], seen["at a stop"], time.time() - begun))
+    print("seed %d: %d calls in %d lists through the library, %d denied, %d of them at a stop, %d by FF, %d of these a write; none differs; %.0f s" % (
+        seed, made, lists, seen["denied"], seen["at a stop"], seen["by FF"], seen["write"], time.time() - begun))
 
 
 if __name__ == "__main__":

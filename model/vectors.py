@@ -13,9 +13,12 @@ import sys
 import model
 import run
 import setups
-from model import (CHANNEL, CLASSES, CLONE, CLOSE, CONTROL, CREATE, DELETE,
-                   DIRECTORY, FILE, LOGIN, READ, READ_OPEN, READ_WRITE_OPEN,
-                   SEND_SIGNAL, SET_LEVEL, TERMINATE, UNSET, WRITE, WRITE_OPEN)
+import trees
+from model import (ADD_INHERITED, CHANNEL, CLASSES, CLONE, CLOSE, CONTROL, CREATE,
+                   DELETE, DIRECTORY, EXECUTE, FILE, FLAGS, LOGIN, NO_DELETE,
+                   NO_EXECUTE, READ, READ_ONLY, READ_OPEN, READ_WRITE_OPEN, SEARCH,
+                   SEARCH_ONLY, SEND_SIGNAL, SET_LEVEL, TERMINATE, UNSET, WRITE,
+                   WRITE_OPEN)
 from records import object_record, switches_record, user_record
 
 FULL_COVERAGE = 240           # from so many cases on, coverage is asserted
@@ -29,6 +32,9 @@ def random_setup(rng, switches, users=None, objects=None):
     trusting = rng.choice((0.0, 0.1, 0.4))
     unset = rng.choice((0.0, 0.05, 0.15))
     secret = rng.choice((0.1, 0.2, 0.6))
+    # with FF on few flags, so that calls are accepted; with FF off they forbid nothing
+    flagged = rng.choice((0.02, 0.05, 0.12)) if switches[3] else 0.3
+    in_directories = rng.choice((0.2, 0.5, 0.8))
     if users is None:
         users = rng.choice((1, 1, 2, 2, 3, 4, 5, 8, 16))
     if objects is None:
@@ -38,17 +44,30 @@ def random_setup(rng, switches, users=None, objects=None):
         clearance = rng.choice((rng.randint(0, top), top, top, rng.randint(0, 15)))
         data += user_record(clearance, rng.choice((0, 0, 1, 1, 2)),
                             int(rng.random() < trusting))
+    directories = []
     for number in range(objects):
         # the first four are one of each kind, so that each request has a target
         kind = number if number < 4 else rng.choice((0, 0, 0, 1, 2, 2, 3))
         level = UNSET if rng.random() < unset else rng.randint(0, top)
         category = UNSET if rng.random() < unset else rng.choice((0, 0, 0, 1, 2))
-        data += object_record(kind, level, category, int(rng.random() < secret))
+        flags = sum(flag for flag in FLAGS[:4] if rng.random() < flagged)
+        flags += ADD_INHERITED if rng.random() < 0.6 else 0
+        parent = 0
+        if directories and rng.random() < in_directories:
+            parent = rng.choice((rng.choice(directories), directories[-1])) + 1
+        data += object_record(kind, level, category, int(rng.random() < secret), flags, parent)
+        directories += [number] if kind == DIRECTORY else []
     return data
 
 
 def all_switches():
-    return [(mac, fc, sim) for mac in (0, 1) for fc in (0, 1) for sim in (0, 1)]
+    return [(mac, fc, sim, ff) for mac in (0, 1) for fc in (0, 1) for sim in (0, 1)
+            for ff in (0, 1)]
+
+
+def switches_of(serial):
+    """All combinations in turn, with those of a few cases far from each other."""
+    return all_switches()[serial * 5 % 16]
 
 
 def damaged_setups(rng):
@@ -79,19 +98,22 @@ def damaged_setups(rng):
     damage("damaged", "object", 0, rng.choice((0, 4, 5, 255)), 15)
     # every field one past its range
     for kind, place, past in (("switches", 1, 2), ("switches", 2, 2),
-                              ("switches", 3, 2), ("user", 1, 16),
+                              ("switches", 3, 2), ("switches", 4, 2), ("user", 1, 16),
                               ("user", 2, 3), ("user", 3, 2), ("object", 1, 4),
                               ("object", 2, 16), ("object", 3, 3),
                               ("object", 4, 2)):
         damage("one past", kind, place, past, 17)
     # unset where it is not allowed
     for kind, place in (("switches", 1), ("switches", 2), ("switches", 3),
-                        ("user", 1), ("user", 2), ("user", 3), ("object", 1),
-                        ("object", 4)):
+                        ("switches", 4), ("user", 1), ("user", 2), ("user", 3),
+                        ("object", 1), ("object", 4), ("object", 5)):
         damage("unset", kind, place, 255, 17)
+    # a bit of byte 5 that is no flag
+    for bit in (16, 32, 64):
+        damage("bit %d of" % bit, "object", 5, bit + sum(f for f in FLAGS if rng.random() < 0.5), 17)
     # a byte that must be 0
-    for kind, places in (("switches", (4, 5, 6, 7)), ("user", (4, 5, 6, 7)),
-                         ("object", (5, 6, 7))):
+    for kind, places in (("switches", (5, 6, 7)), ("user", (4, 5, 6, 7)),
+                         ("object", (7,))):
         for place in places:
             damage("not zero", kind, place, rng.randint(1, 255), 17)
     # lengths
@@ -124,6 +146,39 @@ def damaged_setups(rng):
     data, users, objects = base()
     data[16], data[17] = 7, 99
     cases.append(("15 before 17", bytes(data), 15, 2))
+
+    # a parent that is no earlier directory; objects 0 to 3 are one of each kind
+    def parent(name, number, value, refused_with=19, also=()):
+        data, users, _ = base(None, 8)
+        index = users + 1 + number
+        data[8 * index + 6] = value
+        for place, byte in also:
+            data[8 * index + place] = byte
+        cases.append(("%s, object byte 6" % name, bytes(data), refused_with, index))
+
+    parent("a later directory", 0, 2)
+    parent("a later object", rng.randint(4, 6), 8)
+    parent("itself", 1, 2)
+    parent("a file", rng.randint(4, 7), FILE + 1)
+    parent("a channel", rng.randint(4, 7), CHANNEL + 1)
+    parent("control data", rng.randint(4, 7), CONTROL + 1)
+    parent("not entered", rng.randint(0, 7), 9)
+    for value in (128, 129, 130, 255):
+        parent("number %d" % value, rng.randint(0, 7), value)
+    parent("number above 130", rng.randint(0, 7), rng.randint(131, 254))
+    parent("a bad flag with", 5, 1, 17, [(5, 16)])
+    parent("a bad kind with", 5, 255, 17, [(1, 4)])
+    parent("byte 7 with", 5, 1, 17, [(7, 1)])
+    parent("a bad record kind with", 5, 1, 15, [(0, 4)])
+    data, users, _ = base(None, 8)
+    data[8 * (users + 5) + 6], data[8 * (users + 6) + 1] = 1, 4
+    cases.append(("19 before a later 17", bytes(data), 19, users + 5))
+    data, users, _ = base(None, 8)
+    data[8 * (users + 5) + 1], data[8 * (users + 6) + 6] = 4, 1
+    cases.append(("17 before a later 19", bytes(data), 17, users + 5))
+    data, users, _ = base(rng.randint(0, 3), 129)
+    data[8 * (users + 129) + 6] = 255
+    cases.append(("16 before 19", bytes(data), 16, users + 129))
     return cases
 
 
@@ -410,14 +465,100 @@ class Caller:
                 call = (CREATE, call[1], self.rng.randint(0, 130), self.rng.randint(0, 4))
             self.give(call)
 
+    def caller_for(self, request, t, e=0):
+        """A process whose call is accepted, where there is one."""
+        running = self.running()
+        able = [p for p in running if self.answer((request, p, t, e)) == 0]
+        return self.one_of(able or running, 31)
+
+    def make_and_try(self):
+        """Create in a directory, the deepest ones too, and try at once what its flags forbid."""
+        directories = self.live([DIRECTORY])
+        shielded = [n for n in directories if model.effective_flags(self.facility, n) & NO_EXECUTE]
+        t = self.one_of(shielded if shielded and self.rng.random() < 0.8 else directories)
+        e = self.rng.choice((FILE, FILE, DIRECTORY))
+        p = self.caller_for(CREATE, t, e)
+        outcome = self.give((CREATE, p, t, e))
+        if outcome.number == 0:
+            made = outcome.object_number
+            if e == DIRECTORY:
+                inside = self.give((CREATE, p, made, FILE))
+                made = inside.object_number if inside.number == 0 else made
+            for request in (EXECUTE, self.rng.choice((WRITE_OPEN, READ_OPEN, SEARCH, DELETE))):
+                self.give((request, p, made, self.unused()))
+
+    def end_a_shield(self):
+        """Execute a file that inherits no-execute, delete a directory that it inherits through, execute it again."""
+        objects = self.facility.objects
+        found = []
+        for t in self.live([FILE]):
+            source = model.flag_source(self.facility, t, NO_EXECUTE)
+            number = t
+            while source is not None and number != source:
+                number = objects[number].parent
+                p = self.caller_for(DELETE, number)
+                if self.answer((DELETE, p, number, 0)) == 0:
+                    found.append((t, number, p))
+        if not found:
+            return
+        t, directory, p = self.rng.choice(found)
+        p_execute = self.one_of([q for q in self.running() if self.answer((EXECUTE, q, t, 0)) in (0, 12)], 31)
+        self.give((EXECUTE, p_execute, t, self.unused()))
+        self.give((DELETE, p, directory, self.unused()))
+        self.give((EXECUTE, p_execute, t, self.unused()))
+        self.give((EXECUTE, self.caller_for(EXECUTE, t), t, self.unused()))
+
+    def delete_below(self):
+        """Delete what inherits from a directory that has no-delete."""
+        objects = self.facility.objects
+        below = [n for n in self.live() if objects[n].flags & ADD_INHERITED and objects[n].parent is not None
+                 and objects[objects[n].parent].live and objects[objects[n].parent].flags & NO_DELETE]
+        if below:
+            t = self.rng.choice(below)
+            self.give((DELETE, self.caller_for(DELETE, t), t, self.unused()))
+
+    def delete_directory(self):
+        """Delete a directory, first of all one that others lie in."""
+        objects = self.facility.objects
+        directories = self.live([DIRECTORY])
+        parents = [n for n in directories if any(obj.live and obj.parent == n for obj in objects)]
+        t = self.one_of(parents if parents and self.rng.random() < 0.7 else directories)
+        self.give((DELETE, self.caller_for(DELETE, t), t, self.unused()))
+
+    def try_flagged(self):
+        """A request that an effective flag forbids, or another one on the same object."""
+        flag, own = self.rng.choice(FLAGS[:4]), self.rng.random() < 0.5
+        found = []
+        for t in self.live():
+            obj = self.facility.objects[t]
+            if model.flag_source(self.facility, t, flag) is not None and (obj.flags & flag != 0) == own:
+                found += [(request, t) for request in CLASSES[obj.kind] if model.forbids(flag, obj.kind, request)]
+        if not found:
+            return
+        request, t = self.rng.choice(found)
+        if self.rng.random() < 0.3:
+            request = self.rng.choice(sorted(CLASSES[self.facility.objects[t].kind]))
+        e = self.rng.randint(0, 1) if request == CREATE else self.unused()
+        able = [p for p in self.running() if self.answer((request, p, t, e)) in (0, 12)]
+        self.give((request, self.one_of(able or self.running(), 31), t, e))
+
     def go(self, count):
         while len(self.calls) < count:
-            if self.rng.random() < 0.04:
+            if self.rng.random() < 0.05:
                 self.rng.choice((self.shared_delete, self.fixed_level, self.signals,
                                  self.close_and_try, self.clone_and_try,
-                                 self.again))()
+                                 self.again, self.make_and_try, self.end_a_shield,
+                                 self.try_flagged))()
             else:
                 self.step()
+
+    def go_in_tree(self, count):
+        ways = (self.make_and_try, self.make_and_try, self.end_a_shield, self.delete_directory, self.delete_below,
+                self.try_flagged, self.try_flagged, self.step, self.step)
+        while len(self.calls) < count:
+            if not self.running():
+                self.give(self.fitting(LOGIN))
+            self.rng.choice(ways)()
 
     def bytes(self):
         return b"".join(bytes(call) for call in self.calls)
@@ -443,18 +584,18 @@ def refused_case(rng, setup, number, index):
 
 
 def ordinary_case(rng, serial):
-    switches = all_switches()[serial % 8]
-    if serial % 16 >= 8:
+    switches = switches_of(serial)
+    if serial % 48 >= 32:
         switches = (1,) + switches[1:]       # MAC on more often than not
     caller = Caller(rng, random_setup(rng, switches))
-    return finish(rng, caller, serial, rng.randint(70, 180))
+    return finish(rng, caller, serial, rng.randint(90, 200))
 
 
 def full_case(rng, serial):
     """Creates to the 128th and the refused 129th."""
     users = 16 if serial % 4 == 0 else rng.randint(1, 3)
     objects = 128 if serial % 8 == 0 else rng.choice((120, 124, 126, 127, 128))
-    setup = random_setup(rng, all_switches()[serial % 8], users, objects)
+    setup = random_setup(rng, switches_of(serial), users, objects)
     caller = Caller(rng, setup)
     caller.give(caller.fitting(LOGIN))
     caller.give(caller.fitting(LOGIN))
@@ -465,7 +606,7 @@ def full_case(rng, serial):
 
 def growing_case(rng, serial):
     """From a small set-up, or one without objects, up by creates."""
-    setup = random_setup(rng, all_switches()[serial % 8], rng.randint(1, 2),
+    setup = random_setup(rng, switches_of(serial), rng.randint(1, 2),
                          rng.choice((0, 0, 1, 4)))
     caller = Caller(rng, setup)
     caller.give(caller.fitting(LOGIN))
@@ -475,7 +616,7 @@ def growing_case(rng, serial):
 
 def bare_case(rng, serial):
     """No users: no login is accepted."""
-    setup = random_setup(rng, all_switches()[serial % 8], 0, rng.choice((0, 4)))
+    setup = random_setup(rng, switches_of(serial), 0, rng.choice((0, 4)))
     caller = Caller(rng, setup)
     for _ in range(10):
         caller.step()
@@ -485,28 +626,50 @@ def bare_case(rng, serial):
 def answers_case(rng, serial):
     """Objects of every level, category and data type, so that the modules'
     answers meet in every way."""
-    setup = switches_record(*all_switches()[-1 if serial < 4 else serial % 8])
+    # FF on in all; all four in five cases, the others in other combinations
+    setup = switches_record(*(all_switches()[-1] if serial < 5 else all_switches()[(2 * serial + 7) % 16]))
     for role in (0, 1, 2):
         setup += user_record(1, role, 0) + user_record(1, role, 1)
     objects = [(kind, level, category, data_type) for kind in range(4)
                for level in (0, 1, 3, UNSET) for category in (0, 1, 2, UNSET)
                for data_type in (0, 1)]
     rng.shuffle(objects)
-    setup += b"".join(object_record(*fields) for fields in objects)
+    directories = [0]
+    for number, fields in enumerate(objects):
+        # read-only of its own, or from a parent that has it, or not at all
+        setup += object_record(*fields, rng.choice((0, 0, NO_DELETE, READ_ONLY, READ_ONLY, ADD_INHERITED, ADD_INHERITED + SEARCH_ONLY)),
+                               rng.choice(directories))
+        directories += [number + 1] if fields[0] == DIRECTORY else []
     caller = Caller(rng, setup)
     for number in range(6):
         caller.give((LOGIN, number, 0, number))
     seen = set()
-    while len(caller.calls) < 110:
+    while len(caller.calls) < 140:
         call = caller.fitting(rng.choice([n for n in range(22) if n not in
                                           (CLONE, SEND_SIGNAL, TERMINATE, LOGIN)]))
         # keep what has not been answered so before
         outcome = tuple(model.query(caller.facility, call))
-        if outcome[:4] not in seen or rng.random() < 0.05:
-            seen.add(outcome[:4])
+        row = outcome[:4] + outcome[6:]
+        if row not in seen or rng.random() < 0.02:
+            seen.add(row)
             caller.give(call)
-        elif rng.random() < 0.01:
+        elif rng.random() < 0.002:
             seen.clear()
+    return finish(rng, caller, serial, 0)
+
+
+def tree_case(rng, serial):
+    """Chains and trees of directories, FF on in three of four."""
+    switches = all_switches()[(serial + serial // 4) % 8 * 2][:3] + (int(serial % 4 != 0),)
+    chain = serial % 3 == 0
+    caller = Caller(rng, (trees.chain_setup if chain else trees.tree_setup)(rng, switches))
+    for p in range(min(3, len(caller.facility.users))):
+        caller.give((LOGIN, p, 0, p))
+    if chain:                                # at its end, before a directory is deleted
+        for t in caller.live()[-3:]:
+            for request in rng.sample(sorted(CLASSES[caller.facility.objects[t].kind]), 4) + [EXECUTE, SEARCH]:
+                caller.give((request, rng.choice((0, 0, 1)), t, 0))
+    caller.go_in_tree(rng.randint(80, 150))
     return finish(rng, caller, serial, 0)
 
 
@@ -517,6 +680,18 @@ def finish(rng, caller, serial, count):
         rng.randint(0, 255) for _ in range(left_over))
 
 
+MAKERS = {"full": full_case, "growing": growing_case, "bare": bare_case,
+          "answers": answers_case, "tree": tree_case, "ordinary": ordinary_case}
+
+
+def some_case(rng):
+    """A set-up and calls of any sort, without end for fuzz.py."""
+    sort = rng.choice(("ordinary", "ordinary", "ordinary", "ordinary", "full", "growing", "answers", "bare", "refused"))
+    if sort == "refused":
+        return refused_case(rng, *rng.choice(damaged_setups(rng))[1:])
+    return MAKERS[sort](rng, rng.randrange(48))
+
+
 def make_cases(rng, count):
     damaged = damaged_setups(rng)
     plan = [("refused", case) for case in damaged]
@@ -524,12 +699,11 @@ def make_cases(rng, count):
     plan += [("growing", n) for n in range(8)]
     plan += [("bare", n) for n in range(4)]
     plan += [("answers", n) for n in range(12)]
+    plan += [("tree", n) for n in range(32)]
     plan += [("worked example", 0)]
     plan = plan[:count]
     plan += [("ordinary", n) for n in range(count - len(plan))]
     rng.shuffle(plan)
-    makers = {"full": full_case, "growing": growing_case, "bare": bare_case,
-              "answers": answers_case, "ordinary": ordinary_case}
     cases = []
     for sort, detail in plan:
         if sort == "refused":
@@ -542,7 +716,7 @@ def make_cases(rng, count):
                            19, 0, 0, 0])
             cases.append((sort, setup, calls))
         else:
-            cases.append((sort,) + makers[sort](rng, detail))
+            cases.append((sort,) + MAKERS[sort](rng, detail))
     return cases
 
 
@@ -566,7 +740,9 @@ def expected_lines(number, setup, calls):
     out = model.setup_bytes(facility)
     weighed = sum((i + 1) * byte for i, byte in enumerate(out)) % 4294967296
     refusals = " ".join(str(n) for n in facility.refusals)
-    lines.append("state %d %s %d %d %d" % (len(calls) // 4, refusals, entered, len(out), weighed))
+    flags = sum((t + 1) * model.effective_flags(facility, t) for t in range(entered)
+                if facility.objects[t].live) % 4294967296
+    lines.append("state %d %s %d %d %d %d" % (len(calls) // 4, refusals, entered, len(out), weighed, flags))
     holds = sum(1 for x in range(entered) for c in range(entered)
                 if account.object_holds(x, c))
     lines.append("matter %d" % holds)
@@ -589,16 +765,79 @@ def coverage(cases):
                 count["refused set-up with left-over bytes"] += 1
             continue
         count["set-ups accepted"] += 1
-        count["switches %d%d%d" % (facility.mac_on, facility.fc_on, facility.sim_on)] += 1
+        count["switches %d%d%d%d" % (facility.mac_on, facility.fc_on, facility.sim_on, facility.ff_on)] += 1
         if len(setup) == model.MAX_SETUP:
             count["longest set-up"] += 1
         if len(calls) % 4:
             count["left-over bytes %d" % (len(calls) % 4)] += 1
         ended = set()
         account = model.Account(setup)
+        set_up = len(facility.objects)
         for i in range(0, len(calls) - 3, 4):
+            call = tuple(calls[i:i + 4])
+            cover_flags(count, facility, call, model.query(facility, call), set_up)
             cover_call(count, facility, account, tuple(calls[i:i + 4]), ended)
+        cover_writing(count, facility, set_up)
     return count
+
+
+def cover_writing(count, facility, set_up):
+    """The set-up written out after the calls: parents that were deleted, have a new number, or were created."""
+    for obj in facility.objects:
+        if obj.live and obj.parent is not None:
+            deleted = not facility.objects[obj.parent].live
+            count["written with a deleted parent"] += deleted
+            count["written with a parent's new number"] += not deleted and not all(o.live for o in facility.objects[:obj.parent])
+            count["written with a created parent"] += not deleted and obj.parent >= set_up
+
+
+def depth(facility, t):
+    """through how many parents object t inherits"""
+    steps = 0
+    while facility.objects[t].flags & ADD_INHERITED and model.live_parent(facility, facility.objects[t]) is not None:
+        t, steps = facility.objects[t].parent, steps + 1
+    return steps
+
+
+def cover_flags(count, facility, call, outcome, set_up):
+    """What the file flags did with a call on an object, before it is enforced. `set_up`: how many objects the set-up entered."""
+    request, _, t, e = call
+    if outcome.number not in (0, 12, 13) or not facility.ff_on or not model.needs_object(request, e):
+        return
+    obj = facility.objects[t]
+    effective = model.effective_flags(facility, t)
+    forbidding = model.forbidding_flags(facility, request, t)
+    for flag in forbidding:
+        source = model.flag_source(facility, t, flag)
+        sort = "own" if source == t else "inherited"
+        count["flag %d forbids, %s" % (flag, sort)] += 1
+        count["flag %d forbids, kind %d" % (flag, obj.kind)] += 1
+        count["flag %d alone refuses" % flag] += forbidding == [flag] and outcome.mac < 2 and outcome.fc < 2 and outcome.sim < 2
+        if source != t:
+            count["a created file inherits"] += t >= set_up and obj.kind == FILE
+            count["inherits through a created directory"] += obj.parent >= set_up
+            count["forbidden from 100 directories above"] += depth(facility, t) >= 100
+            count["forbidden in a set-up's chain of 127"] += depth(facility, t) == 127
+    if outcome.number != 0:
+        return
+    count["accepted below 100 directories"] += depth(facility, t) >= 100
+    count["search in a search-only directory"] += request == SEARCH and effective & SEARCH_ONLY != 0
+    count["a file under search-only"] += obj.kind == FILE and effective & SEARCH_ONLY != 0
+    count["a read of a read-only file"] += request == READ_OPEN and effective & READ_ONLY != 0
+    parent = model.live_parent(facility, obj)
+    if parent is not None:
+        above = model.effective_flags(facility, parent)
+        inherits = obj.flags & ADD_INHERITED != 0
+        count["delete below no-delete"] += request == DELETE and inherits and above & NO_DELETE != 0
+        count["accepted only without the object's own 128"] += not inherits and any(
+            above & flag and flag != NO_DELETE and model.forbids(flag, obj.kind, request) for flag in FLAGS)
+    # with the deleted ones live again the request would be forbidden
+    dead = [other for other in facility.objects if not other.live]
+    for other in dead:
+        other.live = True
+    count["accepted only since a parent is deleted"] += bool(model.forbidding_flags(facility, request, t))
+    for other in dead:
+        other.live = False
 
 
 def cover_call(count, facility, account, call, ended):
@@ -623,7 +862,7 @@ def cover_call(count, facility, account, call, ended):
     count["calls"] += 1
     count["number %d" % number] += 1
     if number in (0, 12, 13):
-        count["answers %d%d%d" % (outcome.mac, outcome.fc, outcome.sim)] += 1
+        count["answers %d%d%d%d" % (outcome.mac, outcome.fc, outcome.sim, outcome.ff)] += 1
     # where accepted: request, class by kind, owner
     if number == 0:
         count["request %d accepted" % request] += 1
@@ -682,7 +921,7 @@ def assert_coverage(count):
     for kind, requests in CLASSES.items():
         for request in requests:
             least("kind %d request %d accepted" % (kind, request), 10)
-    for number in (14, 15, 16, 17):
+    for number in (14, 15, 16, 17, 19):
         least("set-ups refused with %d" % number, 1)
     for name, _, _, _ in damaged_setups(random.Random(0)):
         least("refused: " + name, 1)
@@ -691,8 +930,8 @@ def assert_coverage(count):
             assert any(key.startswith("refused: ")
                        and key.endswith("%s byte %d" % (record_kind, place))
                        for key in count), (record_kind, place)
-    for mac, fc, sim in all_switches():
-        least("switches %d%d%d" % (mac, fc, sim), 5)
+    for switches in all_switches():
+        least("switches %d%d%d%d" % switches, 5)
     for role in range(3):
         least("role %d accepted" % role, 100)
         least("role %d refused" % role, 20)
@@ -711,11 +950,30 @@ def assert_coverage(count):
     least("128th object", 5)
     least("longest set-up", 1)
     least("refused set-up with left-over bytes", 5)
-    # every row of answers the three modules can give together
+    # every row of answers the four modules can give together; FF does not grant
     for mac in range(4):
         for fc in range(4):
             for sim in range(3):
-                least("answers %d%d%d" % (mac, fc, sim), 1)
+                for ff in (0, 2):
+                    least("answers %d%d%d%d" % (mac, fc, sim, ff), 1)
+    for flag in (READ_ONLY, NO_EXECUTE, SEARCH_ONLY):
+        least("flag %d forbids, inherited" % flag, 10)
+    for flag in FLAGS[:4]:
+        least("flag %d forbids, own" % flag, 10)
+        least("flag %d alone refuses" % flag, 10)
+    for kind in range(4):
+        least("flag %d forbids, kind %d" % (READ_ONLY, kind), 10)
+        least("flag %d forbids, kind %d" % (NO_DELETE, kind), 3)
+    least("inherits through a created directory", 3)
+    for key in ("a created file inherits", "forbidden from 100 directories above",
+                "accepted below 100 directories", "search in a search-only directory", "a file under search-only",
+                "a read of a read-only file", "delete below no-delete", "accepted only without the object's own 128",
+                "accepted only since a parent is deleted", "written with a deleted parent", "written with a parent's new number",
+                "written with a created parent"):
+        least(key, 10)
+    least("forbidden in a set-up's chain of 127", 1)
+    assert count["flag %d forbids, inherited" % NO_DELETE] == 0
+    assert not any(count["flag %d forbids, kind %d" % (SEARCH_ONLY, kind)] for kind in (FILE, CHANNEL, CONTROL))
 
 
 def main():

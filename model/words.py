@@ -13,7 +13,9 @@ REQUESTS = ["alter", "change-owner", "clone", "close", "create", "delete", "dele
 NUMBERS = ["accepted", "no such request", "no such process number", "process does not run", "process number is not free", "no such user",
            "object is not live", "object's kind lacks the request", "no such kind", "object is not open in that mode",
            "128 objects are entered", "no such level", "not granted", "undefined", "length is not allowed", "kind does not fit the place",
-           "too many users or objects", "a byte is not allowed"]
+           "too many users or objects", "a byte is not allowed", "buffer is too short", "parent is no earlier directory"]
+FLAGS = {model.READ_ONLY: "read-only", model.NO_EXECUTE: "no-execute", model.NO_DELETE: "no-delete", model.SEARCH_ONLY: "search-only",
+         model.ADD_INHERITED: "add-inherited"}
 
 
 def word(words, number, none):
@@ -33,7 +35,18 @@ def object_words(facility, t):
     if thing is None or not thing.live:
         return " object %d (not live)" % t
     level = "unset" if thing.level == model.UNSET else str(thing.level)
-    return " object %d (%s, level %s)" % (t, KINDS[thing.kind], level)
+    return " object %d (%s, level %s%s)" % (t, KINDS[thing.kind], level, flag_words(facility, t) if facility.ff_on else "")
+
+
+def flag_words(facility, t):
+    effective = model.effective_flags(facility, t)
+    return "".join(", " + name for flag, name in FLAGS.items() if effective & flag)
+
+
+def reason(facility, request, t):
+    """The first flag that forbids the request, and the object that it comes from."""
+    flag = model.forbidding_flags(facility, request, t)[0]
+    return " by %s of object %d" % (FLAGS[flag], model.flag_source(facility, t, flag))
 
 
 def target_words(facility, request, t, e):
@@ -61,9 +74,10 @@ def sentence(index, facility, call):
     counted = ""
     if outcome.number in (12, 13):
         counted = "; refusals of user %d: %d" % (caller.owner, facility.refusals[caller.owner])
-    return "%d process %d (%s): %s%s: MAC %s, FC %s, SIM %s, combined %s: %d %s; then %s%s" % (
+    flag = reason(facility, request, t) if outcome.ff == model.NOT_GRANTED else ""
+    return "%d process %d (%s): %s%s: MAC %s, FC %s, SIM %s, FF %s%s, combined %s: %d %s; then %s%s" % (
         index, p, before, word(REQUESTS, request, "no request"), target, ANSWERS[outcome.mac], ANSWERS[outcome.fc], ANSWERS[outcome.sim],
-        ANSWERS[outcome.combined], outcome.number, NUMBERS[outcome.number], process_words(facility, p), counted)
+        ANSWERS[outcome.ff], flag, ANSWERS[outcome.combined], outcome.number, NUMBERS[outcome.number], process_words(facility, p), counted)
 
 
 def tell(setup, calls):

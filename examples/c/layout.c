@@ -39,14 +39,25 @@ _Static_assert(offsetof(hv_facility, writemarks) == 821, "writemarks");
 _Static_assert(offsetof(hv_facility, automatics) == 853, "automatics");
 _Static_assert(offsetof(hv_facility, opens) == 885, "opens");
 _Static_assert(offsetof(hv_facility, refusals) == 4984, "refusals");
-_Static_assert(sizeof(hv_facility) == 5048, "facility");
-_Static_assert(offsetof(hv_enforced, outcome) == 5048 && sizeof(hv_enforced) == 5056, "enforced");
-_Static_assert(offsetof(hv_reading, number) == 5048 && offsetof(hv_reading, index) == 5050 && sizeof(hv_reading) == 5052, "reading");
-_Static_assert(offsetof(hv_printed, length) == 5048 && sizeof(hv_printed) == 5056, "printed");
-_Static_assert(sizeof(hv_outcome) == 6 && offsetof(hv_outcome, object) == 5, "outcome");
+_Static_assert(offsetof(hv_facility, ff) == 5048, "ff");
+_Static_assert(offsetof(hv_facility, flags) == 5049, "flags");
+_Static_assert(offsetof(hv_facility, parents) == 5177, "parents");
+_Static_assert(sizeof(hv_facility) == 5308, "facility");
+_Static_assert(offsetof(hv_enforced, outcome) == 5308 && sizeof(hv_enforced) == 5316, "enforced");
+_Static_assert(offsetof(hv_reading, number) == 5308 && offsetof(hv_reading, index) == 5310 && sizeof(hv_reading) == 5312, "reading");
+_Static_assert(offsetof(hv_printed, length) == 5312 && sizeof(hv_printed) == 5320, "printed");
+_Static_assert(sizeof(hv_outcome) == 7 && offsetof(hv_outcome, object) == 5 && offsetof(hv_outcome, ff) == 6, "outcome");
 _Static_assert(sizeof(hv_writing) == 16 && offsetof(hv_writing, number) == 8, "writing");
-_Static_assert(sizeof(hv_user_record) == 3 && sizeof(hv_process_record) == 6 && sizeof(hv_object_record) == 5, "records");
-_Static_assert(sizeof(hv_summary_record) == 5 && offsetof(hv_summary_record, entered) == 4, "summary");
+_Static_assert(sizeof(hv_user_record) == 3 && sizeof(hv_process_record) == 6 && sizeof(hv_object_record) == 7, "records");
+_Static_assert(offsetof(hv_object_record, flags) == 5 && offsetof(hv_object_record, parent) == 6, "object record");
+_Static_assert(sizeof(hv_summary_record) == 6 && offsetof(hv_summary_record, entered) == 4 && offsetof(hv_summary_record, ff) == 5, "summary");
+
+/* The paddings: from, and behind the last byte. */
+enum { PAD = offsetof(hv_facility, opens) + HV_PROCESSES * HV_OBJECTS, PAD_END = offsetof(hv_facility, refusals) };
+enum { TAIL = offsetof(hv_facility, parents) + HV_OBJECTS, TAIL_END = sizeof(hv_facility) };
+_Static_assert(PAD == 4981 && PAD_END == 4984 && TAIL == 5305 && TAIL_END == 5308, "paddings");
+
+static const uint8_t each_flag[] = {HV_READ_ONLY, HV_NO_EXECUTE, HV_NO_DELETE, HV_SEARCH_ONLY, HV_ADD_INHERITED};
 
 /* Each field of a facility of random bytes, as C has it and as the library reads it. */
 static void fields(hv_facility f)
@@ -77,6 +88,13 @@ static void fields(hv_facility f)
         expect(r.level == (is ? f.levels[t] : 0), "level", t);
         expect(r.category == (is ? f.categories[t] : 0), "category", t);
         expect(r.datatype == (is ? f.datatypes[t] : 0), "data type", t);
+        expect(r.flags == (is ? f.flags[t] : 0), "flags", t);
+        expect(r.parent == (is ? f.parents[t] : 0), "parent", t);
+        if (!is) {
+            expect(hv_effective_flags(f, (uint8_t)t) == 0, "effective flags of a number above 127", t);
+            for (size_t k = 0; k < sizeof each_flag; k++)
+                expect(hv_flag_source(f, (uint8_t)t, each_flag[k]) == HV_NO_OBJECT, "source for a number above 127", t);
+        }
     }
     for (int p = 0; p < 40; p++)
         for (int t = 0; t < 136; t++) {
@@ -84,14 +102,20 @@ static void fields(hv_facility f)
             expect(hv_open_marks(f, (uint8_t)p, (uint8_t)t) == (is ? f.opens[p * HV_OBJECTS + t] & 3 : 0), "open", p * 256 + t);
         }
     hv_summary_record s = hv_summary(f);
-    expect(s.mac == f.mac && s.fc == f.fc && s.sim == f.sim, "switches", 0);
+    expect(s.mac == f.mac && s.fc == f.fc && s.sim == f.sim && s.ff == f.ff, "switches", 0);
     expect(s.users == f.users && s.entered == f.entered, "counts", 0);
 }
 
 /* All of a facility but its padding, which a copy by value may leave. */
 static int same_facility(const hv_facility *f, const hv_facility *g)
 {
-    return memcmp(f, g, offsetof(hv_facility, opens) + sizeof f->opens) == 0 && memcmp(f->refusals, g->refusals, sizeof f->refusals) == 0;
+    return memcmp(f, g, PAD) == 0 && memcmp((const uint8_t *)f + PAD_END, (const uint8_t *)g + PAD_END, TAIL - PAD_END) == 0;
+}
+
+static int same_paddings(const hv_facility *f, const hv_facility *g)
+{
+    return memcmp((const uint8_t *)f + PAD, (const uint8_t *)g + PAD, PAD_END - PAD) == 0
+        && memcmp((const uint8_t *)f + TAIL, (const uint8_t *)g + TAIL, TAIL_END - TAIL) == 0;
 }
 
 /* A call of no request gives the facility back: each byte of it, out of the library. */
@@ -102,7 +126,8 @@ static void handed_back(hv_facility f)
     hv_facility g = f;
     hv_outcome o = hv_enforce_at(&g, 255, 0, 0, 0);
     expect(memcmp(&g, &f, sizeof f) == 0 && o.number == HV_NO_REQUEST, "facility where it is", 0);
-    expect(e.outcome.number == HV_NO_REQUEST && e.outcome.combined == HV_NOT_CARED && e.outcome.object == HV_NO_OBJECT, "outcome", 0);
+    expect(e.outcome.number == HV_NO_REQUEST && e.outcome.combined == HV_NOT_CARED && e.outcome.object == HV_NO_OBJECT
+           && e.outcome.ff == HV_NOT_CARED, "outcome", 0);
 }
 
 static uint8_t below(int n)
@@ -124,6 +149,7 @@ static hv_facility likely(void)
     each_below(&f.mac, 1, 2);
     each_below(&f.fc, 1, 2);
     each_below(&f.sim, 1, 2);
+    each_below(&f.ff, 1, 2);
     f.users = (uint8_t)(HV_USERS - below(4));
     each_below(f.clearances, sizeof f.clearances, 16);
     each_below(f.roles, sizeof f.roles, 3);
@@ -144,14 +170,71 @@ static hv_facility likely(void)
     for (int t = 0; t < HV_OBJECTS; t++) {
         if (f.levels[t] == 16) f.levels[t] = HV_UNSET;
         if (f.categories[t] == 3) f.categories[t] = HV_UNSET;
+        f.flags[t] = (uint8_t)((below(3) ? 0 : below(16)) | (below(2) ? HV_ADD_INHERITED : 0));
+        f.parents[t] = 0;
+        for (int k = 0; k < 4 && t > 0 && f.parents[t] == 0; k++) {
+            uint8_t parent = below(t);
+            if (f.kinds[parent] == HV_DIRECTORY) f.parents[t] = (uint8_t)(parent + 1);
+        }
     }
     return f;
 }
 
-/* The same calls by value and where the facility is: outcome and facility are the same, and the padding stays. */
+/* Whether object t inherits from its parent, and from which. */
+static int inherits(const hv_facility *f, int t, int *parent)
+{
+    *parent = f->parents[t] - 1;
+    return (f->flags[t] & HV_ADD_INHERITED) != 0 && *parent >= 0 && f->lives[*parent] == 1;
+}
+
+/* The effective flags and where each comes from, of each live object, against a loop up the chain. */
+static void flags(hv_facility f)
+{
+    for (int t = 0; t < HV_OBJECTS; t++) {
+        if (f.lives[t] != 1) continue;
+        uint8_t sum = f.flags[t];
+        int parent;
+        for (int at = t; inherits(&f, at, &parent); at = parent) sum |= f.flags[parent] & ~HV_NO_DELETE;
+        expect(hv_effective_flags(f, (uint8_t)t) == sum, "effective flags", t);
+        for (size_t k = 0; k < sizeof each_flag; k++) {
+            int at = t, found = HV_NO_OBJECT;
+            while (!(f.flags[at] & each_flag[k]) && inherits(&f, at, &parent)) at = parent;
+            if ((sum & each_flag[k]) != 0) found = at;
+            expect(hv_flag_source(f, (uint8_t)t, each_flag[k]) == found, "source of a flag", t * 256 + each_flag[k]);
+        }
+    }
+}
+
+/* FF's answer in the outcome's last byte, and both ways to read parents: a file below a directory that is read-only. */
+static void shield(void)
+{
+    static const uint8_t setup[] = {
+        3, 0, 0, 0, 1, 0, 0, 0,
+        1, 0, 0, 0, 0, 0, 0, 0,
+        2, HV_FILE, 0, 0, 0, HV_NO_DELETE, 0, 0,
+        2, HV_DIRECTORY, 0, 0, 0, HV_READ_ONLY | HV_NO_DELETE, 0, 0,
+        2, HV_FILE, 0, 0, 0, HV_ADD_INHERITED, 2, 0,
+    };
+    uint8_t out[sizeof setup];
+    hv_reading r = hv_read_setup(setup, sizeof setup);
+    expect(r.number == HV_ACCEPTED && r.facility.ff == 1 && r.facility.flags[1] == 5 && r.facility.parents[2] == 2, "set-up of a shield", r.number);
+    hv_writing w = hv_write_setup(r.facility, out, sizeof out);
+    expect(w.number == HV_ACCEPTED && w.length == sizeof setup && memcmp(out, setup, sizeof setup) == 0, "set-up of a shield, written", w.number);
+    hv_enforce_at(&r.facility, HV_LOGIN, 0, 0, 0);
+    hv_outcome o = hv_enforce_at(&r.facility, HV_WRITE_OPEN, 0, 2, 0);
+    expect(o.number == HV_DENIED && o.ff == HV_NOT_GRANTED && o.combined == HV_NOT_GRANTED && o.object == HV_NO_OBJECT, "shield", o.number);
+    expect(hv_effective_flags(r.facility, 2) == (HV_ADD_INHERITED | HV_READ_ONLY), "effective flags of a shield", 2);
+    expect(hv_flag_source(r.facility, 2, HV_READ_ONLY) == 1 && hv_flag_source(r.facility, 2, HV_NO_DELETE) == HV_NO_OBJECT, "source of a shield", 2);
+    uint8_t damaged[sizeof setup];
+    memcpy(damaged, setup, sizeof setup);
+    damaged[sizeof setup - 2] = 1;
+    r = hv_read_setup(damaged, sizeof damaged);
+    expect(r.number == HV_SETUP_PARENT && r.index == 4, "a parent that is no directory", r.number);
+}
+
+/* The same calls by value and where the facility is: outcome and facility are the same, and the paddings stay. */
 static void both_ways(hv_facility f)
 {
-    enum { PADDING = offsetof(hv_facility, opens) + sizeof f.opens };
     hv_facility g = f;
     for (int k = 0; k < 4000; k++) {
         uint8_t c[4] = {below(23), below(34), below(130), below(18)};
@@ -160,7 +243,7 @@ static void both_ways(hv_facility f)
         hv_enforced e = hv_enforce(f, c[0], c[1], c[2], c[3]);
         expect(memcmp(&o, &e.outcome, sizeof o) == 0 && memcmp(&q, &o, sizeof o) == 0, "outcome both ways, request", c[0]);
         expect(same_facility(&g, &e.facility), "facility both ways, request", c[0]);
-        expect(memcmp((uint8_t *)&g + PADDING, (uint8_t *)&f + PADDING, offsetof(hv_facility, refusals) - PADDING) == 0, "padding", c[0]);
+        expect(same_paddings(&g, &f), "padding", c[0]);
         f = g;
     }
 }
@@ -194,7 +277,9 @@ int main(void)
         handed_back(f);
         both_ways(likely());
         blocks(likely());
+        flags(likely());
     }
+    shield();
     printf("layout: %d checks, %d differ\n", checks, failures);
     return failures != 0;
 }

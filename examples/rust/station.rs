@@ -4,7 +4,7 @@
 /// A facility: its bytes are the library's (include/hvozdalka.h names the fields).
 #[repr(C, align(4))]
 #[derive(Clone, Copy)]
-pub struct Facility([u8; 5048]);
+pub struct Facility([u8; 5308]);
 
 #[repr(C)]
 #[derive(Clone, Copy)]
@@ -23,6 +23,7 @@ pub struct Outcome {
     pub sim: u8,
     pub combined: u8,
     pub object: u8,
+    pub ff: u8,
 }
 
 #[repr(C)]
@@ -42,18 +43,25 @@ extern "C" {
     fn hv_enforce_at(f: *mut Facility, request: u8, process: u8, target: u8, extra: u8) -> Outcome;
     fn hv_process(f: Facility, process: u8) -> Process;
     fn hv_refusals(f: Facility, user: u8) -> u32;
+    fn hv_flag_source(f: Facility, object: u8, flag: u8) -> u8;
 }
 
 const LOGIN: u8 = 21;
 const READ_OPEN: u8 = 13;
 const WRITE_OPEN: u8 = 20;
+const NOT_GRANTED: u8 = 2;
+const READ_ONLY: u8 = 1;
+const NO_OBJECT: u8 = 255;
 
-/// MAC on alone; one untrusted user of clearance 2; the open notes (level 0) and the restricted hull lines (level 2).
-const SETUP: [u8; 32] = [
-    3, 1, 0, 0, 0, 0, 0, 0, //
+/// MAC and FF on; one untrusted user of clearance 2; the open notes (level 0), the restricted hull lines (level 2), a directory of released
+/// drawings that is read-only (level 2), and a sheet in it, which inherits (add-inherited 128, parent 2 plus 1).
+const SETUP: [u8; 48] = [
+    3, 1, 0, 0, 1, 0, 0, 0, //
     1, 2, 0, 0, 0, 0, 0, 0, //
     2, 0, 0, 0, 0, 0, 0, 0, //
-    2, 0, 2, 0, 0, 0, 0, 0,
+    2, 0, 2, 0, 0, 0, 0, 0, //
+    2, 1, 2, 0, 0, 1, 0, 0, //
+    2, 0, 2, 0, 0, 128, 3, 0,
 ];
 
 impl Facility {
@@ -76,6 +84,12 @@ impl Facility {
         unsafe { hv_process(*self, process) }
     }
 
+    /// The object whose own flag it is that an object has among its effective ones.
+    pub fn flag_source(&self, object: u8, flag: u8) -> Option<u8> {
+        let source = unsafe { hv_flag_source(*self, object, flag) };
+        (source != NO_OBJECT).then_some(source)
+    }
+
     /// The calls refused with 12 or 13 whose caller the user owned.
     pub fn refusals(&self, user: u8) -> u32 {
         unsafe { hv_refusals(*self, user) }
@@ -94,6 +108,7 @@ fn main() {
         ("login of user 0 at process 0", LOGIN, 0),
         ("open the hull lines for reading", READ_OPEN, 1),
         ("open the notes for writing", WRITE_OPEN, 0),
+        ("open the released sheet for writing", WRITE_OPEN, 3),
     ] {
         let foretold = f.query(request, 0, target, 0);
         let outcome = f.enforce(request, 0, target, 0);
@@ -103,6 +118,11 @@ fn main() {
             "{words}: number {}; current level {}, read mark {}, write mark {}",
             outcome.number, p.current, p.readmark, p.writemark
         );
+        if outcome.ff == NOT_GRANTED {
+            if let Some(source) = f.flag_source(target, READ_ONLY) {
+                println!("    object {target} is read-only, and has it from object {source}");
+            }
+        }
     }
     println!("refusals of user 0: {}", f.refusals(0));
 }

@@ -26,8 +26,8 @@ combine NotGranted Undefined = Undefined
 combine Undefined b = Undefined
 
 -- the modules' answers combined, MAC first
-abbrev pub combineAll : Answer → Answer → Answer → Answer
-combineAll mac fc sim = combine mac (combine fc sim)
+abbrev pub combineAll : Answer → Answer → Answer → Answer → Answer
+combineAll mac fc sim ff = combine mac (combine fc (combine sim ff))
 
 abbrev pub isNotGranted : Answer → Bool
 isNotGranted a = eqb (code a) 2

@@ -17,11 +17,11 @@ unfoldable pub denies : ℕ → Bool
 denies n = eqb n 12 or eqb n 13
 
 abbrev pub notCared : Answers
-notCared = record { mac = NotCared; fc = NotCared; sim = NotCared; combined = NotCared }
+notCared = record { mac = NotCared; fc = NotCared; sim = NotCared; ff = NotCared; combined = NotCared }
 
--- the answers of the three modules, with their combination
-unfoldable pub answersFrom : Answer → Answer → Answer → Answers
-answersFrom m f s = record { mac = m; fc = f; sim = s; combined = combineAll m f s }
+-- the answers of the four modules, with their combination
+unfoldable pub answersFrom : Answer → Answer → Answer → Answer → Answers
+answersFrom m f s g = record { mac = m; fc = f; sim = s; ff = g; combined = combineAll m f s g }
 
 -- what a call with this number, these answers and this object comes to
 unfoldable pub outcomeOf : ℕ → Answers → ℕ → Outcome

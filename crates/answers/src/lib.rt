@@ -19,6 +19,7 @@ pub struct Answers {
     pub mac: Answer,
     pub fc: Answer,
     pub sim: Answer,
+    pub ff: Answer,
     pub combined: Answer,
 }
 
@@ -35,7 +36,7 @@ pub enum Outcome {
 // What reading a set-up comes to.
 pub enum SetupOutcome {
     Accepted,
-    // Number 14 to 17, and the index of the record that is refused.
+    // Number 14 to 17 or 19, and the index of the record that is refused.
     Refused { number: u8, index: u16 },
 }
 
@@ -96,16 +97,18 @@ impl Answer {
 }
 
 impl Answers {
-    // The answers of the three modules, with their combination.
-    pub fn of(mac: Answer, fc: Answer, sim: Answer) -> Answers
-        ensures { λ r. ⌜ r ≡ answersFrom mac fc sim ⌝ }
+    // The answers of the four modules, with their combination.
+    pub fn of(mac: Answer, fc: Answer, sim: Answer, ff: Answer) -> Answers
+        ensures { λ r. ⌜ r ≡ answersFrom mac fc sim ff ⌝ }
     {
-        let rest = fc.combine(sim);
+        let last = sim.combine(ff);
+        let rest = fc.combine(last);
         let combined = mac.combine(rest);
         Answers {
             mac,
             fc,
             sim,
+            ff,
             combined,
         }
     }
@@ -148,6 +151,7 @@ impl Outcome {
                 mac: Answer::NotCared,
                 fc: Answer::NotCared,
                 sim: Answer::NotCared,
+                ff: Answer::NotCared,
                 combined: Answer::NotCared,
             },
         }

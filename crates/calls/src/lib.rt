@@ -42,14 +42,18 @@ pub fn view_of(f: Facility, c: Call) -> View
         &f.levels,
         &f.categories,
         &f.datatypes,
+        &f.flags,
+        &f.parents,
         t,
     );
     let opens = labels::at(&f.opens, i);
+    let flags = flags::seen_at(f.ff, &f.lives, &f.flags, &f.parents, t);
     View {
         switches: Switches {
             mac: f.mac,
             fc: f.fc,
             sim: f.sim,
+            ff: f.ff,
         },
         users: f.users,
         entered: f.entered,
@@ -59,6 +63,7 @@ pub fn view_of(f: Facility, c: Call) -> View
             receiver,
             object,
             opens,
+            flags,
         },
     }
 }

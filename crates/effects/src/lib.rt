@@ -1,6 +1,6 @@
 // What an accepted call changes: decided once, applied by the state by value and by the bytes in place.
 ghost use mathlib.Core.Path.{_≡_};
-ghost use Rattle.rules.specs.Effects.{changeOf, created};
+ghost use Rattle.rules.specs.Effects.{changeOf, created, firstFlags, firstParent};
 ghost use Rattle.rules.specs.Requests.{actionOf};
 ghost use Rattle.effects.specs.Changes.{changeBy};
 use rules::Action;
@@ -10,17 +10,41 @@ use state::Change;
 use state::Object;
 use state::Process;
 
+// What a created object inherits by: a file or a directory has the flag and the directory t that it is made in as parent.
+fn first_flags(kind: u8) -> u8
+    ensures { λ x. ⌜ x ≡ firstFlags kind ⌝ }
+{
+    if requests::in_directory(kind) {
+        return flags::ADD_INHERITED;
+    }
+    0
+}
+
+fn first_parent(kind: u8, t: u8) -> u8
+    ensures { λ x. ⌜ x ≡ firstParent kind t ⌝ }
+{
+    let inside = requests::in_directory(kind);
+    if inside & (t < opens::OBJECTS) {
+        return t + 1;
+    }
+    0
+}
+
 // The object that create enters.
-fn created(r: Process, kind: u8) -> Object
-    ensures { λ x. ⌜ x ≡ created r kind ⌝ }
+fn created(r: Process, kind: u8, t: u8) -> Object
+    ensures { λ x. ⌜ x ≡ created r kind t ⌝ }
 {
     let label = r.current;
+    let flags = first_flags(kind);
+    let parent = first_parent(kind, t);
     Object {
         live: 1,
         kind,
         label,
         category: 0,
         datatype: 0,
+        flags,
+        parent,
     }
 }
 
@@ -29,10 +53,10 @@ fn change_of_create(v: View, c: Call) -> Change
 {
     if requests::in_directory(c.extra) {
         let r = modules::moved(v, c);
-        let o = created(r, c.extra);
+        let o = created(r, c.extra, c.target);
         return Change::CreateObject { p: c.process, r, o };
     }
-    let o = created(v.caller, c.extra);
+    let o = created(v.caller, c.extra, c.target);
     Change::EnterObject { o }
 }
 

@@ -32,6 +32,7 @@ outcomeNumbers o =
       sim = code (answersOf o .sim);
       combined = code (answersOf o .combined);
       object = objectNumberOf o;
+      ff = code (answersOf o .ff);
     }
 
 abbrev pub enforcedNumbers : Enforced → CallEnforced
@@ -45,7 +46,7 @@ writingNumbers w = record { length = writeLength w; number = writeNumber w }
 
 -- switches and counts
 abbrev pub summaryOf : Facility → Summary
-summaryOf f = record { mac = f .mac; fc = f .fc; sim = f .sim; users = f .users; entered = f .entered }
+summaryOf f = record { mac = f .mac; fc = f .fc; sim = f .sim; users = f .users; entered = f .entered; ff = f .ff }
 
 -- the same from an outcome that is known
 pub reading-is : (r q : Reading) (o : SetupOutcome) → r ≡ q → r .outcome ≡ o

@@ -6,10 +6,11 @@ ghost use Rattle.in_place.specs.Layout.{facilityAt};
 ghost use Rattle.in_place.specs.Stores.{Becomes};
 ghost use Rattle.lines.specs.Blocks.{blockText, facilityAfter};
 ghost use Rattle.rules.specs.Calls.{after, enforce, query};
+ghost use Rattle.rules.specs.FileFlags.{effective, flagSource};
 ghost use Rattle.rules.specs.Lines.{callsOf};
 ghost use Rattle.rules.specs.Matter.{holds};
 ghost use Rattle.rules.specs.Setup.{readSetup, writeSetup};
-ghost use Rattle.state.specs.State.{objectOf, processOf, refusalsOf, userOf};
+ghost use Rattle.state.specs.State.{objectOf, objectsIn, processOf, refusalsOf, userOf};
 ghost use Rattle.text.specs.Stored.{Stored};
 use answers::Outcome;
 use answers::SetupOutcome;
@@ -30,6 +31,7 @@ pub struct CallOutcome {
     pub sim: u8,
     pub combined: u8,
     pub object: u8,
+    pub ff: u8,
 }
 
 #[repr(C)]
@@ -59,6 +61,7 @@ pub struct Summary {
     pub sim: u8,
     pub users: u8,
     pub entered: u8,
+    pub ff: u8,
 }
 
 fn outcome_numbers(o: Outcome) -> CallOutcome
@@ -68,6 +71,7 @@ fn outcome_numbers(o: Outcome) -> CallOutcome
     let mac = answers.mac;
     let fc = answers.fc;
     let sim = answers.sim;
+    let ff = answers.ff;
     let combined = answers.combined;
     CallOutcome {
         number: o.number(),
@@ -76,10 +80,11 @@ fn outcome_numbers(o: Outcome) -> CallOutcome
         sim: sim.code(),
         combined: combined.code(),
         object: o.object(),
+        ff: ff.code(),
     }
 }
 
-// Reads a set-up. Number 0, or the refusal number 14 to 17 with the index of the record, and then the facility with all switches off.
+// Reads a set-up. Number 0, or the refusal number 14 to 17 or 19 with the index of the record, and then the facility with all switches off.
 #[no_mangle]
 pub extern "C" fn hv_read_setup(bytes: &[u8]) -> SetupReading
     ensures { λ r. ⌜ r ≡ readingNumbers (readSetup (now (bytes .entry))) ⌝ }
@@ -280,6 +285,22 @@ pub extern "C" fn hv_refusals(f: Facility, u: u8) -> u32
     labels::word_at(&f.refusals, u as usize)
 }
 
+// The effective flags of an object, whether FF is on or off.
+#[no_mangle]
+pub extern "C" fn hv_effective_flags(f: Facility, t: u8) -> u8
+    ensures { λ r. ⌜ r ≡ effective (objectsIn f) t ⌝ }
+{
+    flags::effective_at(&f.lives, &f.flags, &f.parents, t as usize)
+}
+
+// The object whose own flag it is that object t has among its effective ones; 255 where it has none of it.
+#[no_mangle]
+pub extern "C" fn hv_flag_source(f: Facility, t: u8, flag: u8) -> u8
+    ensures { λ r. ⌜ r ≡ flagSource (objectsIn f) t flag ⌝ }
+{
+    flags::source_at(&f.lives, &f.flags, &f.parents, t, flag)
+}
+
 // Switches and counts.
 #[no_mangle]
 pub extern "C" fn hv_summary(f: Facility) -> Summary
@@ -291,5 +312,6 @@ pub extern "C" fn hv_summary(f: Facility) -> Summary
         sim: f.sim,
         users: f.users,
         entered: f.entered,
+        ff: f.ff,
     }
 }

@@ -13,6 +13,7 @@ use Rattle.in_place.specs.Stores.{storeField, storeIn, Becomes, paddingI
 use Rattle.in_place.specs.Layout.{size, offset, fieldOf, wholeSize, theRefusals, facilityAt, theMac, theFc, theSim, theUsers, theEntered}
 use Rattle.in_place.specs.Layout.{facilityOf, theOpens, thePadding, lastField, theClearances, theRoles, theTrusts, theLives, theKinds, theLevels}
 use Rattle.in_place.specs.Layout.{theCategories, theDatatypes, theRunnings, theOwners, theCurrents, theReadmarks, theWritemarks, theAutomatics}
+use Rattle.in_place.specs.Layout.{theFf, theFlags, theParents, theLastPadding}
 use Rattle.in_place.proofs.Stores.{store-inside, stored, before, length-store}
 use Rattle.in_place.specs.Fields.{Fields, putField, BecomesUnique, countsPut, usersPut, objectsPut, processesPut}
 use Rattle.in_place.proofs.Changes.{field-length}
@@ -111,6 +112,17 @@ field-of-one m n k a b h z e =
     let y = field-length n k (omega arith) in
     one-byte (fieldOf m k) (fieldOf n k) (omega arith) (omega arith) e
 
+-- lists of the same length, one behind the other
+halves : (a c b d : List ℕ) → length a ≡ length c → a ++ b ≡ c ++ d → (a ≡ c) × (b ≡ d)
+halves [] [] b d h e = (refl, e)
+halves [] (y ∷ c) b d h e = absurd (omega arith)
+halves (x ∷ a) [] b d h e = absurd (omega arith)
+halves (x ∷ a) (y ∷ c) b d h e =
+    let q : x ≡ y = cc in
+    let t : a ++ b ≡ c ++ d = cc in
+    let (p, r) = halves a c b d (omega arith) t in
+    ((λ i. q i ∷ p i), r)
+
 pub becomes-unique : BecomesUnique
 unfolding facilityAt
 becomes-unique s m n f a b p q =
@@ -120,11 +132,14 @@ becomes-unique s m n f a b p q =
     let mac = field-of-one m n theMac la lb (omega arith) refl (ap (λ (x : Facility). x .mac) e) in
     let fc = field-of-one m n theFc la lb (omega arith) refl (ap (λ (x : Facility). x .fc) e) in
     let sim = field-of-one m n theSim la lb (omega arith) refl (ap (λ (x : Facility). x .sim) e) in
+    let ff = field-of-one m n theFf la lb (omega arith) refl (ap (λ (x : Facility). x .ff) e) in
     let users = field-of-one m n theUsers la lb (omega arith) refl (ap (λ (x : Facility). x .users) e) in
     let entered = field-of-one m n theEntered la lb (omega arith) refl (ap (λ (x : Facility). x .entered) e) in
     let refusals =
     same-words (fieldOf m theRefusals) (fieldOf n theRefusals) (field-length m theRefusals (omega arith)) (field-length n theRefusals (omega arith))
     (λ i. field-byte m theRefusals i (a .below)) (λ i. field-byte n theRefusals i (b .below)) (ap (λ (x : Facility). x .refusals) e) in
+    let (first, last) = halves (fieldOf m thePadding) (fieldOf n thePadding) (fieldOf m theLastPadding) (fieldOf n theLastPadding)
+    (field-length m thePadding (omega arith) ∙ sym (field-length n thePadding (omega arith))) (p .1 ∙ sym (q .1)) in
     let t = and-field m n theMac refl mac in
     let t = and-field m n theFc t fc in
     let t = and-field m n theSim t sim in
@@ -145,14 +160,18 @@ becomes-unique s m n f a b p q =
     let t = and-field m n theWritemarks t (ap (λ (x : Facility). x .writemarks) e) in
     let t = and-field m n theAutomatics t (ap (λ (x : Facility). x .automatics) e) in
     let t = and-field m n theOpens t (ap (λ (x : Facility). x .opens) e) in
-    let t = and-field m n thePadding t (p .1 ∙ sym (q .1)) in
+    let t = and-field m n thePadding t first in
     let t = and-field m n theRefusals t refusals in
+    let t = and-field m n theFf t ff in
+    let t = and-field m n theFlags t (ap (λ (x : Facility). x .flags) e) in
+    let t = and-field m n theParents t (ap (λ (x : Facility). x .parents) e) in
+    let t = and-field m n theLastPadding t last in
     sym (all-taken m wholeSize (omega arith)) ∙ t
     ∙ all-taken n wholeSize (omega arith)
 
 -- A facility by value is stored field by field: the bytes become its.
 pub stored-whole : (s m1 m2 m3 m4 m5 m6 : List ℕ) (f : Facility) → length (f .opens) ≡ mostOpens
-    → Fields m1 (countsPut (fieldOf s) (f .mac) (f .fc) (f .sim) (f .users) (f .entered))
+    → Fields m1 (countsPut (fieldOf s) (f .mac) (f .fc) (f .sim) (f .ff) (f .users) (f .entered))
     → Fields m2 (usersPut (fieldOf m1) (usersIn f)) → Fields m3 (objectsPut (fieldOf m2) (objectsIn f)) → Fields m4 (processesPut (fieldOf m3) (processesIn f))
     → m5 ≡ sets m4 (offset theOpens) (f .opens) → Becomes m5 m6 (putRefusals (facilityAt m5) (f .refusals))
     → Becomes s m6 f

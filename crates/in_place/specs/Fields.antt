@@ -7,7 +7,7 @@ use lib.Dec.{eqb}
 use lib.ListN.{length}
 use Rattle.in_place.specs.Layout.{fieldOf, wholeSize, theMac, theFc, theSim, theUsers, theEntered, theClearances, theRoles, theTrusts, theLives}
 use Rattle.in_place.specs.Layout.{theKinds, theLevels, theCategories, theDatatypes, theRunnings, theOwners, theCurrents, theReadmarks, theWritemarks}
-use Rattle.in_place.specs.Layout.{theAutomatics}
+use Rattle.in_place.specs.Layout.{theAutomatics, theFf, theFlags, theParents}
 use Rattle.state.specs.State.{Users, Objects, Processes}
 use Rattle.labels.specs.Decisions.{at}
 use Rattle.state.specs.declared.Facility.{Facility}
@@ -22,17 +22,18 @@ pub record Fields (m : List ℕ) (g : ℕ → List ℕ) : Type 0 where
   pub are : fieldOf m ≡ g
 
 -- the fields of the switches and counts, of users, objects and processes replaced
-abbrev pub countsPut : (ℕ → List ℕ) → ℕ → ℕ → ℕ → ℕ → ℕ → ℕ → List ℕ
-countsPut g mac fc sim users entered =
-    putField (putField (putField (putField (putField g theMac (mac ∷ [])) theFc (fc ∷ [])) theSim (sim ∷ [])) theUsers (users ∷ [])) theEntered (entered ∷ [])
+abbrev pub countsPut : (ℕ → List ℕ) → ℕ → ℕ → ℕ → ℕ → ℕ → ℕ → ℕ → List ℕ
+countsPut g mac fc sim ff users entered =
+    putField (putField (putField (putField (putField (putField g theMac (mac ∷ [])) theFc (fc ∷ [])) theSim (sim ∷ [])) theFf (ff ∷ []))
+    theUsers (users ∷ [])) theEntered (entered ∷ [])
 
 abbrev pub usersPut : (ℕ → List ℕ) → Users → ℕ → List ℕ
 usersPut g x = putField (putField (putField g theClearances (x .clearances)) theRoles (x .roles)) theTrusts (x .trusts)
 
 abbrev pub objectsPut : (ℕ → List ℕ) → Objects → ℕ → List ℕ
 objectsPut g x =
-    putField (putField (putField (putField (putField g theLives (x .lives)) theKinds (x .kinds)) theLevels (x .levels)) theCategories (x .categories))
-    theDatatypes (x .datatypes)
+    putField (putField (putField (putField (putField (putField (putField g theLives (x .lives)) theKinds (x .kinds)) theLevels (x .levels))
+    theCategories (x .categories)) theDatatypes (x .datatypes)) theFlags (x .flags)) theParents (x .parents)
 
 abbrev pub processesPut : (ℕ → List ℕ) → Processes → ℕ → List ℕ
 processesPut g x =

@@ -7,10 +7,11 @@ use Rattle.opens.specs.Opens.{build}
 use Rattle.state.specs.State.{mostUsers}
 use Rattle.state.specs.declared.Facility.{Facility}
 
--- the sizes of the fields in order; the last but one is padding
+-- the sizes of the fields in order; the two of 3 bytes are padding
 abbrev pub sizes : List ℕ
 sizes =
-    1 ∷ 1 ∷ 1 ∷ 1 ∷ 16 ∷ 16 ∷ 16 ∷ 1 ∷ 128 ∷ 128 ∷ 128 ∷ 128 ∷ 128 ∷ 32 ∷ 32 ∷ 32 ∷ 32 ∷ 32 ∷ 32 ∷ 4096 ∷ 3 ∷ 64 ∷ []
+    1 ∷ 1 ∷ 1 ∷ 1 ∷ 16 ∷ 16 ∷ 16 ∷ 1 ∷ 128 ∷ 128 ∷ 128 ∷ 128 ∷ 128 ∷ 32 ∷ 32 ∷ 32 ∷ 32 ∷ 32 ∷ 32 ∷ 4096 ∷ 3 ∷ 64 ∷ 1 ∷ 128 ∷ 128 ∷ 3
+    ∷ []
 
 abbrev pub size : ℕ → ℕ
 size k = at sizes k
@@ -86,9 +87,21 @@ thePadding = suc theOpens
 abbrev pub theRefusals : ℕ
 theRefusals = suc thePadding
 
+abbrev pub theFf : ℕ
+theFf = suc theRefusals
+
+abbrev pub theFlags : ℕ
+theFlags = suc theFf
+
+abbrev pub theParents : ℕ
+theParents = suc theFlags
+
+abbrev pub theLastPadding : ℕ
+theLastPadding = suc theParents
+
 -- the last of them, and so the bytes of a facility
 abbrev pub lastField : ℕ
-lastField = theRefusals
+lastField = theLastPadding
 
 abbrev pub wholeSize : ℕ
 wholeSize = offset (suc lastField)
@@ -133,6 +146,9 @@ facilityOf g =
       automatics = g theAutomatics;
       opens = g theOpens;
       refusals = words (g theRefusals);
+      ff = at (g theFf) 0;
+      flags = g theFlags;
+      parents = g theParents;
     }
 
 -- the facility of bytes

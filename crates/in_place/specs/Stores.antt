@@ -1,11 +1,12 @@
 -- Stores into the bytes of a facility: each changes one field.
 use Prim.Native.Nat.{ℕ, _+_}
 use mathlib.Core.Bool.{cond}
-use mathlib.Core.List.{List}
+use mathlib.Core.List.{List, _++_}
 use mathlib.Core.Path.{_≡_}
 use lib.Dec.{ltb, eqb}
 use lib.ListN.{set}
-use Rattle.in_place.specs.Layout.{fieldOf, thePadding, facilityAt, theCategories, theDatatypes, theKinds, theLevels, theLives}
+use Rattle.in_place.specs.Layout.{fieldOf, thePadding, theLastPadding, facilityAt, theCategories, theDatatypes, theKinds, theLevels, theLives}
+use Rattle.in_place.specs.Layout.{theFlags, theParents}
 use Rattle.in_place.specs.Layout.{theRunnings, theOwners, theCurrents, theReadmarks, theWritemarks, theAutomatics}
 use Rattle.state.specs.declared.Process.{Process}
 use Rattle.state.specs.declared.Facility.{Facility}
@@ -19,9 +20,9 @@ storeIn s from n i v = cond (ltb i n) (set s (from + i) v) s
 abbrev pub storeField : (ℕ → List ℕ) → ℕ → ℕ → ℕ → ℕ → List ℕ
 storeField g k i v j = cond (eqb j k) (set (g k) i v) (g j)
 
--- bytes that become those of a facility; the padding stays
+-- bytes that become those of a facility; both paddings stay
 abbrev pub paddingIn : (ℕ → List ℕ) → List ℕ
-paddingIn g = g thePadding
+paddingIn g = g thePadding ++ g theLastPadding
 
 abbrev pub padding : List ℕ → List ℕ
 padding s = paddingIn (fieldOf s)
@@ -38,5 +39,5 @@ storeProcess g p r =
 
 abbrev pub storeObject : (ℕ → List ℕ) → ℕ → Object → ℕ → List ℕ
 storeObject g i o =
-    storeField (storeField (storeField (storeField (storeField g theLives i (o .live)) theKinds i (o .kind)) theLevels i (o .label .level)) theCategories i
-    (o .category)) theDatatypes i (o .datatype)
+    storeField (storeField (storeField (storeField (storeField (storeField (storeField g theLives i (o .live)) theKinds i (o .kind))
+    theLevels i (o .label .level)) theCategories i (o .category)) theDatatypes i (o .datatype)) theFlags i (o .flags)) theParents i (o .parent)

@@ -8,7 +8,7 @@ ghost use Rattle.in_place.specs.Stores.{storeObject, Becomes, storeIn};
 ghost use Rattle.in_place.specs.Fields.{Fields, countsPut, objectsPut, processesPut, usersPut};
 ghost use Rattle.questions.specs.Parts.{processNumber};
 ghost use Rattle.rules.specs.Calls.{after, query};
-ghost use Rattle.rules.specs.Modules.{targetOf, viewOf};
+ghost use Rattle.rules.specs.Modules.{flagsSeen, targetOf, viewOf};
 ghost use Rattle.rules.specs.Questions.{runsOf};
 ghost use Rattle.rules.specs.Requests.{actionOf};
 ghost use Rattle.labels.specs.Labels.{label};
@@ -85,7 +85,15 @@ const REFUSALS: u16 = PADDING + 3;
 
 const COUNTER_BYTES: u16 = 4 * USER_COUNT;
 
-pub const SIZE: usize = (REFUSALS as usize) + (COUNTER_BYTES as usize);
+const FF: u16 = REFUSALS + COUNTER_BYTES;
+
+const FLAGS: u16 = FF + 1;
+
+const PARENTS: u16 = FLAGS + OBJECT_COUNT;
+
+const LAST_PADDING: u16 = PARENTS + OBJECT_COUNT;
+// Three more bytes of padding end the struct, whose size is a multiple of four.
+pub const SIZE: usize = (LAST_PADDING as usize) + 3;
 
 // Byte i of a field, which has n bytes from a place on; 0 where it has no such byte.
 fn byte_in(s: &[u8], from: u16, n: u16, i: u16) -> u8
@@ -143,6 +151,8 @@ fn object_in(s: &[u8], t: u8) -> Object
         label: label_in(s, LEVELS, OBJECT_COUNT, i),
         category: byte_in(s, CATEGORIES, OBJECT_COUNT, i),
         datatype: byte_in(s, DATATYPES, OBJECT_COUNT, i),
+        flags: byte_in(s, FLAGS, OBJECT_COUNT, i),
+        parent: byte_in(s, PARENTS, OBJECT_COUNT, i),
     }
 }
 
@@ -163,7 +173,20 @@ fn switches_in(s: &[u8]) -> Switches
         mac: byte_in(s, MAC, 1, 0),
         fc: byte_in(s, FC, 1, 0),
         sim: byte_in(s, SIM, 1, 0),
+        ff: byte_in(s, FF, 1, 0),
     }
+}
+
+// The effective flags of object t, where FF is on. The arrays are lent to those who know them.
+fn flags_in(s: &[u8], t: u8) -> u8
+    requires { ⌜ length (now s) ≡ wholeSize ⌝ }
+    ensures { λ r. ⌜ r ≡ flagsSeen (facilityAt (now (s .entry))) t ⌝ }
+{
+    let ff = byte_in(s, FF, 1, 0);
+    let lives = &s[LIVES as usize..KINDS as usize];
+    let flags = &s[FLAGS as usize..PARENTS as usize];
+    let parents = &s[PARENTS as usize..LAST_PADDING as usize];
+    flags::seen_at(ff, lives, flags, parents, t as usize)
 }
 
 // The target of process p.
@@ -177,6 +200,7 @@ fn target_in(s: &[u8], p: u8, t: u8) -> Target
         receiver,
         object,
         opens: opens_in(s, p, t),
+        flags: flags_in(s, t),
     }
 }
 
@@ -338,6 +362,8 @@ fn put_object(s: &mut [u8], i: u16, o: Object)
     put_in(s, LEVELS, OBJECT_COUNT, i, o.label.level);
     put_in(s, CATEGORIES, OBJECT_COUNT, i, o.category);
     put_in(s, DATATYPES, OBJECT_COUNT, i, o.datatype);
+    put_in(s, FLAGS, OBJECT_COUNT, i, o.flags);
+    put_in(s, PARENTS, OBJECT_COUNT, i, o.parent);
 }
 
 // The next object number is given to an object, where there is one.
@@ -485,13 +511,14 @@ fn put_array(s: &mut [u8], from: u16, array: &[u8])
 }
 
 // The switches and the counts of users and objects.
-fn put_counts(s: &mut [u8], mac: u8, fc: u8, sim: u8, users: u8, entered: u8)
+fn put_counts(s: &mut [u8], mac: u8, fc: u8, sim: u8, ff: u8, users: u8, entered: u8)
     requires { ⌜ length (now s) ≡ wholeSize ⌝ }
-    ensures { λ x. ⌜ Fields (now (s .exit)) (countsPut (fieldOf (now (s .entry))) mac fc sim users entered) ⌝ }
+    ensures { λ x. ⌜ Fields (now (s .exit)) (countsPut (fieldOf (now (s .entry))) mac fc sim ff users entered) ⌝ }
 {
     put_in(s, MAC, 1, 0, mac);
     put_in(s, FC, 1, 0, fc);
     put_in(s, SIM, 1, 0, sim);
+    put_in(s, FF, 1, 0, ff);
     put_in(s, USERS, 1, 0, users);
     put_in(s, ENTERED, 1, 0, entered);
 }
@@ -513,16 +540,22 @@ fn put_objects<'a>(
     levels: &'a [u8],
     categories: &'a [u8],
     datatypes: &'a [u8],
+    flags: &'a [u8],
+    parents: &'a [u8],
 )
-    requires { ⌜ (length (now s) ≡ wholeSize) × ObjectsShaped (objectsFrom (now lives) (now kinds) (now levels) (now categories) (now datatypes)) ⌝ }
+    requires { ⌜ (length (now s) ≡ wholeSize) × ObjectsShaped (objectsFrom (now lives) (now kinds) (now levels) (now categories) (now datatypes)
+        (now flags) (now parents)) ⌝ }
     ensures { λ x. ⌜ Fields (now (s .exit)) (objectsPut (fieldOf (now (s .entry)))
-        (objectsFrom (now (lives .entry)) (now (kinds .entry)) (now (levels .entry)) (now (categories .entry)) (now (datatypes .entry)))) ⌝ }
+        (objectsFrom (now (lives .entry)) (now (kinds .entry)) (now (levels .entry)) (now (categories .entry)) (now (datatypes .entry))
+        (now (flags .entry)) (now (parents .entry)))) ⌝ }
 {
     put_array(s, LIVES, lives);
     put_array(s, KINDS, kinds);
     put_array(s, LEVELS, levels);
     put_array(s, CATEGORIES, categories);
     put_array(s, DATATYPES, datatypes);
+    put_array(s, FLAGS, flags);
+    put_array(s, PARENTS, parents);
 }
 
 fn put_processes<'a>(
@@ -565,7 +598,7 @@ fn store(f: Facility, s: &mut [u8])
     requires { ⌜ length (now s) ≡ wholeSize ⌝ }
     ensures { λ x. ⌜ Becomes (now (s .entry)) (now (s .exit)) f ⌝ }
 {
-    put_counts(s, f.mac, f.fc, f.sim, f.users, f.entered);
+    put_counts(s, f.mac, f.fc, f.sim, f.ff, f.users, f.entered);
     put_users(s, &f.clearances, &f.roles, &f.trusts);
     put_objects(
         s,
@@ -574,6 +607,8 @@ fn store(f: Facility, s: &mut [u8])
         &f.levels,
         &f.categories,
         &f.datatypes,
+        &f.flags,
+        &f.parents,
     );
     put_processes(
         s,

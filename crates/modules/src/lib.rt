@@ -1,8 +1,8 @@
 // What the modules answer, and MAC's moves of the caller.
 ghost use mathlib.Core.Bool.{false};
 ghost use mathlib.Core.Path.{_≡_};
-ghost use Rattle.rules.specs.Modules.{answers, classIn, fcAnswer, fcRule, levelled, macAnswer, macClass, macObject, macRule, macSignal, mayRead, maySet};
-ghost use Rattle.rules.specs.Modules.{mayWrite, moveBy, moved, setLevel, simAnswer, simRule, wanted};
+ghost use Rattle.rules.specs.Modules.{answers, classIn, fcAnswer, fcRule, ffAnswer, ffRule, levelled, macAnswer, macClass, macObject, macRule};
+ghost use Rattle.rules.specs.Modules.{macSignal, mayRead, maySet, mayWrite, moveBy, moved, setLevel, simAnswer, simRule, wanted};
 ghost use Rattle.rules.specs.Requests.{needsObject};
 use answers::Answer;
 use answers::Answers;
@@ -97,6 +97,16 @@ fn sim_rule(request: u8, k: Class, o: Object, u: User) -> Answer
         return Answer::grant(u.role == 1);
     }
     Answer::NotCared
+}
+
+// FF on an object with these effective flags.
+fn ff_rule(request: u8, k: Class, o: Object, seen: u8) -> Answer
+    ensures { λ x. ⌜ x ≡ ffRule request k o seen ⌝ }
+{
+    if flags::forbidding(seen, request, k, o.kind) == 0 {
+        return Answer::NotCared;
+    }
+    Answer::NotGranted
 }
 
 // MAC's move of a process by class, on an object with label l.
@@ -230,10 +240,25 @@ fn sim_answer(k: Action, v: View, c: Call) -> Answer
     Answer::NotCared
 }
 
+fn ff_answer(k: Action, v: View, c: Call) -> Answer
+    ensures { λ x. ⌜ x ≡ ffAnswer k v c ⌝ }
+{
+    let target = requests::needs_object(k, c.extra);
+    if (v.switches.ff == 1) & target {
+        return ff_rule(c.request, class_in(v, c), v.target.object, v.target.flags);
+    }
+    Answer::NotCared
+}
+
 pub fn answers(k: Action, v: View, c: Call) -> Answers
     ensures { λ x. ⌜ x ≡ answers k v c ⌝ }
 {
-    Answers::of(mac_answer(k, v, c), fc_answer(k, v, c), sim_answer(k, v, c))
+    Answers::of(
+        mac_answer(k, v, c),
+        fc_answer(k, v, c),
+        sim_answer(k, v, c),
+        ff_answer(k, v, c),
+    )
 }
 
 // The caller after an accepted call on an object.

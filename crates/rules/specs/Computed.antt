@@ -10,12 +10,15 @@ use Rattle.opens.specs.Opens.{markPlace, reading, writing, addModes}
 use Rattle.labels.specs.Labels.{leq, same, join, meet, bottom, top, given}
 use Rattle.answers.specs.Answers.{code, grant, passes}
 use Rattle.rules.specs.Requests.{actionOf, files, directories, channels, controlData, listOf, classAmong, classOf, openChange}
-use Rattle.rules.specs.Kinds.{kindOf, countOf, fits, room, allowedBy, allowed, recordNumber}
-use Rattle.rules.specs.Setup.{recordsOf, allowedLength, enterRecord, enterAll, readSetup, bytesOfAll, listed, setupRecords, setupBytes, writeSetup}
+use Rattle.rules.specs.FileFlags.{has, hasParent, inherits, effectiveIn, forbidding, sourceIn}
+use Rattle.rules.specs.Kinds.{kindOf, countOf, fits, room, allowedBy, allowed, directoryAmong, parentFits, recordNumber}
+use Rattle.rules.specs.Setup.{recordsOf, allowedLength, enterRecord, enterAll, readSetup, bytesOfAll, listed, newNumber, newParent}
+use Rattle.rules.specs.Setup.{setupRecords, setupBytes, writeSetup}
 use Rattle.rules.specs.Modules.{mayRead, mayWrite, maySet, macClass, macObject, macSignal, macRule, fcRule, simRule, macAnswer, fcAnswer, simAnswer}
+use Rattle.rules.specs.Modules.{ffRule, ffAnswer}
 use Rattle.rules.specs.Modules.{answers, moveBy, setLevel, moved, levelled}
 use Rattle.rules.specs.Questions.{inRange, isRunning, isFree, openFor, roomFor, numberBy}
-use Rattle.rules.specs.Effects.{effectFrom}
+use Rattle.rules.specs.Effects.{firstFlags, firstParent, effectFrom}
 use Rattle.rules.specs.Calls.{accepted, objectGiven, query, afterRefusal, after}
 use Rattle.rules.specs.Histories.{run, outcomes, trustedLogin, trustedLogins, history}
 use Rattle.rules.specs.Matter.{start, processGains, objectGains, assign, enter, carry, carryBy, afterEntry, account}
@@ -40,11 +43,11 @@ unfolding putProcess putOpens putUser putObject addUser addObject dropObject put
 changesComputed = 0
 
 unfoldable pub setupComputed : ℕ
-unfolding kindOf countOf fits room allowedBy allowed recordNumber recordsOf allowedLength enterRecord enterAll readSetup
+unfolding kindOf countOf fits room allowedBy allowed directoryAmong parentFits recordNumber recordsOf allowedLength enterRecord enterAll readSetup
 setupComputed = 0
 
 unfoldable pub writingComputed : ℕ
-unfolding bytesOfAll listed setupRecords setupBytes writeSetup
+unfolding bytesOfAll listed newNumber newParent setupRecords setupBytes writeSetup
 writingComputed = 0
 
 unfoldable pub requestsComputed : ℕ
@@ -52,8 +55,12 @@ unfolding actionOf files directories channels controlData listOf classAmong clas
 requestsComputed = 0
 
 unfoldable pub modulesComputed : ℕ
-unfolding mayRead mayWrite maySet macClass macObject macSignal macRule fcRule simRule macAnswer fcAnswer simAnswer answers
+unfolding mayRead mayWrite maySet macClass macObject macSignal macRule fcRule simRule macAnswer fcAnswer simAnswer ffRule ffAnswer answers
 modulesComputed = 0
+
+unfoldable pub flagsComputed : ℕ
+unfolding has hasParent inherits effectiveIn forbidding sourceIn
+flagsComputed = 0
 
 unfoldable pub movesComputed : ℕ
 unfolding moveBy setLevel moved levelled
@@ -64,7 +71,7 @@ unfolding inRange isRunning isFree openFor roomFor numberBy
 questionsComputed = 0
 
 unfoldable pub callsComputed : ℕ
-unfolding openBy effectFrom accepted objectGiven query afterRefusal after run outcomes trustedLogin trustedLogins
+unfolding openBy firstFlags firstParent effectFrom accepted objectGiven query afterRefusal after run outcomes trustedLogin trustedLogins
 callsComputed = 0
 
 unfoldable pub matterComputed : ℕ
@@ -75,9 +82,9 @@ unfoldable pub linesComputed : ℕ
 unfolding decimalIn levelText callLine callsOf callLines setupLine shortLine printed
 linesComputed = 0
 
--- Whoever unfolds this unfolds every definition of document 01, so that closed calls compute.
+-- Whoever unfolds this unfolds every definition of document 01 and of the requests of document 02 that have landed, so that closed calls compute.
 unfoldable pub decisionsComputed : ℕ
-unfolding labelsComputed outcomesComputed requestsComputed modulesComputed movesComputed questionsComputed callsComputed
+unfolding labelsComputed outcomesComputed requestsComputed flagsComputed modulesComputed movesComputed questionsComputed callsComputed
 decisionsComputed = 0
 
 unfoldable pub everything : ℕ
@@ -109,6 +116,13 @@ user clearance role trusted = 1 ∷ clearance ∷ role ∷ trusted ∷ 0 ∷ 0 �
 abbrev pub object : ℕ → ℕ → ℕ → ℕ → List ℕ
 object kind level category datatype = 2 ∷ kind ∷ level ∷ category ∷ datatype ∷ 0 ∷ 0 ∷ 0 ∷ []
 
+-- with the fourth switch, and with flags and a parent
+abbrev pub switchesWith : ℕ → ℕ → List ℕ
+switchesWith mac ff = 3 ∷ mac ∷ 0 ∷ 0 ∷ ff ∷ 0 ∷ 0 ∷ 0 ∷ []
+
+abbrev pub flaggedObject : ℕ → ℕ → ℕ → ℕ → List ℕ
+flaggedObject kind level flags parent = 2 ∷ kind ∷ level ∷ 0 ∷ 0 ∷ flags ∷ parent ∷ 0 ∷ []
+
 -- 0, 1, .. up to n numbers
 abbrev pub numbersBelow : ℕ → List ℕ
 numbersBelow zero = []
@@ -127,6 +141,10 @@ processBytes f p =
 abbrev pub objectBytes : Facility → ℕ → List ℕ
 objectBytes f t =
     at (f .lives) t ∷ at (f .kinds) t ∷ at (f .levels) t ∷ at (f .categories) t ∷ at (f .datatypes) t ∷ []
+
+-- for object t: flags, and parent as its number plus 1
+abbrev pub flagBytes : Facility → ℕ → List ℕ
+flagBytes f t = at (f .flags) t ∷ at (f .parents) t ∷ []
 
 -- for user u: clearance, role, trusted
 abbrev pub userBytes : Facility → ℕ → List ℕ

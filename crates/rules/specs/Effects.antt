@@ -1,15 +1,35 @@
 -- "Effects when enforced": the facility after an accepted call.
-use Prim.Native.Nat.{ℕ}
+use Prim.Native.Nat.{ℕ, _+_}
 use mathlib.Core.Bool.{cond}
+use lib.Dec.{ltb}
+use Rattle.labels.specs.Decisions.{_and_}
+use Rattle.opens.specs.Opens.{mostObjects}
 use Rattle.rules.specs.Types.{Call, Process, Object, Facility, Change, NoChange, PutProcess, CloneProcess, EndProcess, UseObject, CreateObject}
 use Rattle.rules.specs.Types.{EnterObject}
 use Rattle.state.specs.State.{changed, freshProcess}
 use Rattle.rules.specs.Requests.{Action, Login, Clone, SendSignal, SetLevel, Terminate, Create, OnObject, Unknown, inDirectory, openChange}
 use Rattle.rules.specs.Modules.{View, viewOf, moved, levelled}
+use Rattle.rules.specs.FileFlags.{addInherited}
+
+-- a created file or directory has add-inherited and its directory t as parent, another object neither
+unfoldable pub firstFlags : ℕ → ℕ
+firstFlags e = cond (inDirectory e) addInherited 0
+
+unfoldable pub firstParent : ℕ → ℕ → ℕ
+firstParent e t = cond (inDirectory e and ltb t mostObjects) (t + 1) 0
 
 -- an object of kind e, level the process's current one, category general, data type none
-abbrev pub created : Process → ℕ → Object
-created r e = record { live = 1; kind = e; label = r .current; category = 0; datatype = 0 }
+abbrev pub created : Process → ℕ → ℕ → Object
+created r e t =
+    record {
+      live = 1;
+      kind = e;
+      label = r .current;
+      category = 0;
+      datatype = 0;
+      flags = firstFlags e;
+      parent = firstParent e t;
+    }
 
 -- what an accepted call changes, by what its request acts on; v is what the call looks at
 abbrev pub changeOf : Action → View → Call → Change
@@ -20,8 +40,8 @@ changeOf SetLevel v c = PutProcess (c .process) (levelled v c)
 changeOf Terminate v c = EndProcess (c .process)
 changeOf Create v c =
     cond (inDirectory (c .extra))
-    (CreateObject (c .process) (moved v c) (created (moved v c) (c .extra)))
-    (EnterObject (created (v .caller) (c .extra)))
+    (CreateObject (c .process) (moved v c) (created (moved v c) (c .extra) (c .target)))
+    (EnterObject (created (v .caller) (c .extra) (c .target)))
 changeOf OnObject v c = UseObject (c .process) (moved v c) (c .target) (openChange (c .request))
 changeOf Unknown v c = NoChange
 

@@ -1,9 +1,10 @@
--- Examples computed from the definitions, a module for each section of document 01: each rule on both sides of each of its conditions.
+-- Examples computed from the definitions, a module for each section of document 01 and for file flags: each rule on both sides of each of its conditions.
 pub mod SetupRecords
 pub mod State
 pub mod Classes
 pub mod Questions
 pub mod Modules
+pub mod FileFlags
 pub mod Effects
 pub mod Calls
 pub mod Matter

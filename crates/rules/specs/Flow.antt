@@ -21,7 +21,7 @@ pub record Above (b a : Label) : Type 0 where
   pub other : given a ≡ true
   pub above : a ⊑ b
 
--- First half: for every set-up with MAC on, FC and SIM on or off, and every list without a trusted login, b holds the matter of
+-- First half: for every set-up with MAC on, FC, SIM and FF on or off, and every list without a trusted login, b holds the matter of
 -- another object a only when its level, after the list, is at least a's. Created and deleted objects are included.
 -- (A refused set-up has MAC off, so `s` is an accepted one.)
 abbrev pub OnlyWhen : Type 0
@@ -64,6 +64,7 @@ pub record MacAlone (s : Switches) : Type 0 where
   pub mac : on (s .mac) ≡ true
   pub fc : on (s .fc) ≡ false
   pub sim : on (s .sim) ≡ false
+  pub ff : on (s .ff) ≡ false
 
 -- Second half: for every set-up with MAC on alone, objects a and b of it, a no channel, and an untrusted user cleared for both,
 -- there is a list, with logins of this user alone, by which b comes to hold the matter of a exactly when b's level is at least a's.

@@ -1,20 +1,22 @@
--- "Set-up records": the kinds of records as a table, and the questions 15 to 17 of a record, by the records before it.
+-- "Set-up records": the kinds of records as a table, and the questions 15 to 17 and 19 of a record, by the records before it.
 pub use Rattle.rules.specs.declared.SetupRecord.{SetupRecord}
 pub use Rattle.rules.specs.declared.Byte.{Byte}
-pub use Rattle.rules.specs.declared.Byte.the-variants.{Zero, Upto, OrUnset}
+pub use Rattle.rules.specs.declared.Byte.the-variants.{Zero, Upto, OrUnset, Bits}
 pub use Rattle.rules.specs.declared.Also.{Also}
 pub use Rattle.rules.specs.declared.Also.the-variants.{Nothing}
 pub use Rattle.rules.specs.declared.Kind.{Kind}
-use Prim.Native.Nat.{ℕ, _+_}
-use mathlib.Core.Bool.{Bool, true, cond}
+use Prim.Native.Nat.{ℕ, _+_, _-_}
+use mathlib.Core.Bool.{Bool, true, false, cond}
 use mathlib.Core.List.{List, [], _∷_}
+use lib.Bits.{bitAnd}
 use lib.Dec.{leb, ltb, eqb}
-use Rattle.labels.specs.Decisions.{_and_, _or_, ask}
+use Rattle.labels.specs.Decisions.{_and_, _or_, ask, asked}
 use Rattle.labels.specs.Labels.{unset}
 use Rattle.state.specs.State.{mostUsers}
 use Rattle.opens.specs.Opens.{mostObjects}
+use Rattle.rules.specs.FileFlags.{allFlags}
 
--- "3 switches: bytes 1 to 3 MAC, FC, SIM, each 0 or 1", one record
+-- "3 switches: bytes 1 to 3 MAC, FC, SIM, each 0 or 1", one record; "a fourth switch is byte 4"
 abbrev pub switchesKind : Kind
 switchesKind =
     record {
@@ -23,7 +25,7 @@ switchesKind =
       one = Upto 1;
       two = Upto 1;
       three = Upto 1;
-      four = Zero;
+      four = Upto 1;
       five = Zero;
       six = Zero;
       seven = Zero;
@@ -46,7 +48,8 @@ usersKind =
       also = Nothing;
     }
 
--- "2 object: byte 1 kind 0..3, byte 2 level 0..15 or 255 unset, byte 3 category 0, 1, 2 or 255 unset, byte 4 data type 0 or 1"
+-- "2 object: byte 1 kind 0..3, byte 2 level 0..15 or 255 unset, byte 3 category 0, 1, 2 or 255 unset, byte 4 data type 0 or 1"; "byte 5 has
+-- flags, other bits must be 0; byte 6 is the parent directory's number plus 1, or 0 for none", which 19 asks
 abbrev pub objectsKind : Kind
 objectsKind =
     record {
@@ -56,8 +59,8 @@ objectsKind =
       two = OrUnset 15;
       three = OrUnset 2;
       four = Upto 1;
-      five = Zero;
-      six = Zero;
+      five = Bits allFlags;
+      six = Upto 255;
       seven = Zero;
       also = Nothing;
     }
@@ -104,6 +107,7 @@ abbrev pub byteAllowed : Byte → ℕ → Bool
 byteAllowed Zero b = eqb b 0
 byteAllowed (Upto n) b = leb b n
 byteAllowed (OrUnset n) b = leb b n or eqb b unset
+byteAllowed (Bits n) b = eqb (bitAnd b n) b
 
 abbrev pub alsoAllowed : Also → SetupRecord → Bool
 alsoAllowed Nothing r = true
@@ -116,6 +120,16 @@ allowedBy d r =
 unfoldable pub allowed : List SetupRecord → SetupRecord → Bool
 allowed past r = allowedBy (kindOf (r .kind)) r
 
--- the questions 15 to 17 of one record
+-- whether object n, the record of kind 2 with n of its kind before it, is among them and is a directory
+unfoldable pub directoryAmong : ℕ → List SetupRecord → Bool
+directoryAmong n [] = false
+directoryAmong n (q ∷ past) = cond (eqb (q .kind) 2 and eqb (countOf 2 past) n) (eqb (q .one) 1) (directoryAmong n past)
+
+-- 19: is the parent of an object none, or the number plus 1 of an earlier directory?
+unfoldable pub parentFits : List SetupRecord → SetupRecord → Bool
+parentFits past r = asked (eqb (r .kind) 2) (eqb (r .six) 0 or directoryAmong (r .six - 1) past)
+
+-- the questions of one record, in order
 unfoldable pub recordNumber : List SetupRecord → SetupRecord → ℕ
-recordNumber past r = ask (fits past r) 15 (ask (room past r) 16 (ask (allowed past r) 17 0))
+recordNumber past r =
+    ask (fits past r) 15 (ask (room past r) 16 (ask (allowed past r) 17 (ask (parentFits past r) 19 0)))

@@ -1,8 +1,9 @@
--- Document 01, section by section.
+-- Document 01, section by section, with what document 02 adds.
 pub mod Types
 pub mod Kinds
 pub mod Setup
 pub mod Requests
+pub mod FileFlags
 pub mod Modules
 pub mod Questions
 pub mod Effects

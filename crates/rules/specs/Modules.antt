@@ -1,4 +1,4 @@
--- "What the modules answer": MAC, FC and SIM on what a call looks at, and MAC's moves of the caller.
+-- "What the modules answer": MAC, FC, SIM and FF on what a call looks at, and MAC's moves of the caller.
 pub use Rattle.rules.specs.declared.View.{View}
 pub use Rattle.rules.specs.declared.Target.{Target}
 use Prim.Native.Nat.{ℕ}
@@ -7,15 +7,20 @@ use lib.Dec.{eqb}
 use Rattle.rules.specs.Types.{Answer, NotCared, Granted, NotGranted, Undefined, Answers, Call, Process, User, Object, Facility}
 use Rattle.labels.specs.Decisions.{_and_, _or_, on}
 use Rattle.answers.specs.Outcomes.{answersFrom}
-use Rattle.state.specs.State.{switchesOf, processOf, objectOf, userOf, isAutomatic, opensOf, withLevels}
+use Rattle.state.specs.State.{switchesOf, objectsIn, processOf, objectOf, userOf, isAutomatic, opensOf, withLevels}
 use Rattle.labels.specs.Labels.{unset, Label, label, leq, same, join, meet, given}
 use Rattle.answers.specs.Answers.{grant}
+use Rattle.rules.specs.FileFlags.{effective, forbids}
 use Rattle.rules.specs.Requests.{Action, Login, Clone, SendSignal, SetLevel, Terminate, Create, OnObject, Unknown, Class, Absent, Reads, Writes}
 use Rattle.rules.specs.Requests.{Both, NoCondition, classOf, alters, inDirectory, needsObject}
 
--- the target of process p: t as a process and as an object, and how p has it open
+-- what FF looks at, where it is on
+abbrev pub flagsSeen : Facility → ℕ → ℕ
+flagsSeen f t = cond (on (f .ff)) (effective (objectsIn f) t) 0
+
+-- the target of process p: t as a process and as an object, how p has it open, and its effective flags
 abbrev pub targetOf : Facility → ℕ → ℕ → Target
-targetOf f p t = record { receiver = processOf f t; object = objectOf f t; opens = opensOf f p t }
+targetOf f p t = record { receiver = processOf f t; object = objectOf f t; opens = opensOf f p t; flags = flagsSeen f t }
 
 -- what a call looks at
 abbrev pub viewOf : Facility → Call → View
@@ -90,7 +95,11 @@ unfoldable pub simRule : ℕ → Class → Object → User → Answer
 simRule request k o u =
     cond ((alters k or eqb request 19) and eqb (o .datatype) 1) (grant (eqb (u .role) 1)) NotCared
 
--- a module that is off does not care; FC and SIM care about object targets only
+-- FF: a forbidden request is not granted, all else is not cared about
+unfoldable pub ffRule : ℕ → Class → Object → ℕ → Answer
+ffRule request k o flags = cond (forbids flags request k (o .kind)) NotGranted NotCared
+
+-- a module that is off does not care; FC, SIM and FF care about object targets only
 unfoldable pub macAnswer : Action → View → Call → Answer
 macAnswer k v c = cond (on (v .switches .mac)) (macRule k v c) NotCared
 
@@ -101,8 +110,12 @@ unfoldable pub simAnswer : Action → View → Call → Answer
 simAnswer k v c =
     cond (on (v .switches .sim) and needsObject k (c .extra)) (simRule (c .request) (classIn v c) (v .target .object) (v .owner)) NotCared
 
+unfoldable pub ffAnswer : Action → View → Call → Answer
+ffAnswer k v c =
+    cond (on (v .switches .ff) and needsObject k (c .extra)) (ffRule (c .request) (classIn v c) (v .target .object) (v .target .flags)) NotCared
+
 unfoldable pub answers : Action → View → Call → Answers
-answers k v c = answersFrom (macAnswer k v c) (fcAnswer k v c) (simAnswer k v c)
+answers k v c = answersFrom (macAnswer k v c) (fcAnswer k v c) (simAnswer k v c) (ffAnswer k v c)
 
 -- MAC's move of a process by class, on an object with label l.
 -- R: current and read mark become at least L. W: current becomes L, write mark at most L. B: as W, and both marks become L

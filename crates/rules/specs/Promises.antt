@@ -1,20 +1,25 @@
 -- Demands 1 and 2 as statements over the definitions. Each is proved in the module of Proofs/ that its comment names.
 use Rattle.answers.specs.declared.Outcome.the-variants.{Refused}
-use Prim.Native.Nat.{ℕ, zero, suc, _+_, _≤_, _<_, min}
+use Prim.Native.Nat.{ℕ, zero, suc, _+_, _-_, _≤_, _<_, min}
 use mathlib.Core.Path.{_≡_}
+use mathlib.Core.Logic.{_≢_}
 use mathlib.Core.Bool.{true, false, not, cond}
 use mathlib.Core.List.{List, [], _∷_}
+use lib.Bits.{bitOr}
 use lib.Dec.{leb, ltb, eqb}
 use lib.ListN.{length}
 use Rattle.rules.specs.Types.{Outcome, Call, Facility}
-use Rattle.labels.specs.Decisions.{_and_, asked, on}
-use Rattle.answers.specs.Outcomes.{denies, numberOf, objectNumberOf}
+use Rattle.labels.specs.Decisions.{_and_, _or_, asked, on}
+use Rattle.answers.specs.Outcomes.{denies, numberOf, objectNumberOf, noObject}
 use Rattle.opens.specs.Opens.{mostObjects}
-use Rattle.state.specs.State.{mostUsers, mostRefusals, switchesOf, processOf, refusalsOf, putRefusals, counted}
+use Rattle.state.specs.State.{Objects, objectsIn, objectOf, live, mostUsers, mostRefusals, switchesOf, processOf, refusalsOf, putRefusals, counted}
 use Rattle.rules.specs.Calls.{accepted, query, after, enforce}
 use Rattle.rules.specs.Histories.{run, outcomes, Step, past, ownerAfter}
-use Rattle.rules.specs.Requests.{Action, lastRequest, actionOf, isAbsent, isNoCondition, isLogin, isCreate, needsObject}
-use Rattle.rules.specs.Setup.{fresh, acceptedSetup, usersOf, liveObjects, setupBytes}
+use Rattle.rules.specs.Requests.{Action, Class, lastRequest, actionOf, isAbsent, isNoCondition, isLogin, isCreate, inDirectory, needsObject}
+use Rattle.rules.specs.Kinds.{SetupRecord, fits, room, allowed, parentFits, recordNumber}
+use Rattle.rules.specs.Setup.{fresh, acceptedSetup, usersOf, liveObjects, newNumber, writtenObjects, setupBytes}
+use Rattle.rules.specs.FileFlags.{readOnly, noExecute, noDelete, searchOnly, addInherited, has, withoutNoDelete, flagsOf, parentOf, inherits}
+use Rattle.rules.specs.FileFlags.{effective, forbids, flagSource}
 use Rattle.rules.specs.Modules.{View, classIn}
 use Rattle.rules.specs.Questions.{runsOf, inRange, isRunning, isFree, openFor, roomFor, numberBy, number}
 
@@ -22,7 +27,7 @@ use Rattle.rules.specs.Questions.{runsOf, inRange, isRunning, isFree, op
 pub record Refusals : Type 0 where
   -- everything but the counters is as it was
   pub unchanged : (f : Facility) (c : Call) → accepted f c ≡ false → after f c ≡ putRefusals f (after f c .refusals)
-  -- refusals but 12 and 13 leave the counters too, and come with four not-cared answers and object 255
+  -- refusals but 12 and 13 leave the counters too, and come with not-cared answers alone and object 255
   pub uncounted : (f : Facility) (c : Call) → accepted f c ≡ false → denies (number f c) ≡ false → after f c ≡ f
   pub unasked : (f : Facility) (c : Call) → accepted f c ≡ false → denies (number f c) ≡ false → query f c ≡ Refused (number f c)
   -- 12 and 13 are counted, for the owner of the calling process alone, and there is no larger number
@@ -96,11 +101,11 @@ pub record ObjectNumbers : Type 0 where
   pub ten : (k : Action) (v : View) (c : Call) → PassedTo9 k v c → eqb (numberBy k v c) 10 ≡ not (roomFor k v c)
   pub full : (k : Action) (v : View) (c : Call) → roomFor k v c ≡ asked (isCreate k) (ltb (v .entered) mostObjects)
 
--- f and g have the same switches, users and live objects, in order
+-- g has the switches, users and live objects of f, in order, and their parents by their new numbers
 pub record SameSetup (f g : Facility) : Type 0 where
   pub switches : switchesOf g ≡ switchesOf f
   pub users : usersOf g ≡ usersOf f
-  pub objects : liveObjects g ≡ liveObjects f
+  pub objects : liveObjects g ≡ writtenObjects f
 
 -- a facility's set-up, written out and read back
 pub record ReadBack (f : Facility) : Type 0 where
@@ -113,3 +118,30 @@ pub record RoundTrips : Type 0 where
   pub written : (s : List ℕ) → acceptedSetup s ≡ true → setupBytes (fresh s) ≡ s
   -- written out, after any list of calls from any fresh facility, and read back, it gives the same users, switches and live objects, in order
   pub read : (s : List ℕ) (cs : List Call) → ReadBack (run (fresh s) cs)
+  -- 19 exactly where 15, 16 and 17 pass and an object's parent is neither none nor an earlier directory
+  pub nineteen : (past : List SetupRecord) (r : SetupRecord)
+      → eqb (recordNumber past r) 19 ≡ (fits past r and room past r and allowed past r and not (parentFits past r))
+
+-- Ticket 2, file flags (Proofs/Inheritance).
+pub record Inheritance : Type 0 where
+  -- effective flags are the own ones and, with add-inherited, the parent's effective ones without no-delete
+  pub effectively : (x : Objects) (t : ℕ)
+      → effective x t ≡ bitOr (flagsOf x t) (cond (inherits x t) (withoutNoDelete (effective x (parentOf x t - 1))) 0)
+  -- after every list each object's parent is none or an earlier directory
+  pub parents : (s : List ℕ) (cs : List Call) (t : ℕ) → t < run (fresh s) cs .entered → (objectOf (run (fresh s) cs) t) .parent ≢ 0
+      → ((objectOf (run (fresh s) cs) t) .parent - 1 < t) × ((objectOf (run (fresh s) cs) ((objectOf (run (fresh s) cs) t) .parent - 1)) .kind ≡ 1)
+  -- after every list, written out and read back, each live object has the effective flags that it had
+  pub kept : (s : List ℕ) (cs : List Call) (t : ℕ) → live (run (fresh s) cs) t ≡ true
+      → effective (objectsIn (fresh (setupBytes (run (fresh s) cs)))) (newNumber (objectsIn (run (fresh s) cs)) t)
+      ≡ effective (objectsIn (run (fresh s) cs)) t
+  -- what is created in a directory has that directory's effective flags at once, without no-delete
+  pub created : (s : List ℕ) (cs : List Call) (c : Call) → accepted (run (fresh s) cs) c ≡ true → isCreate (actionOf (c .request)) ≡ true
+      → inDirectory (c .extra) ≡ true → effective (objectsIn (after (run (fresh s) cs) c)) (run (fresh s) cs .entered)
+      ≡ bitOr addInherited (withoutNoDelete (effective (objectsIn (run (fresh s) cs)) (c .target)))
+  -- an object has a flag exactly when there is an object that it comes from, whose own it is
+  pub sourced : (x : Objects) (t m : ℕ) → t < mostObjects → has m (effective x t) ≡ not (eqb (flagSource x t m) noObject)
+  pub own : (x : Objects) (t m : ℕ) → has m (effective x t) ≡ true → has m (flagsOf x (flagSource x t m)) ≡ true
+  -- flags forbid what one of them forbids (Examples/FileFlags has what each does)
+  pub each : (v request : ℕ) (k : Class) (kind : ℕ) → forbids v request k kind
+      ≡ (has readOnly v and forbids readOnly request k kind or has noExecute v and forbids noExecute request k kind
+      or has noDelete v and forbids noDelete request k kind or has searchOnly v and forbids searchOnly request k kind)

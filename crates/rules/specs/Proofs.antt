@@ -10,8 +10,10 @@ pub mod Records
 pub mod Past
 pub mod Bytes
 pub mod Listed
+pub mod Parents
 pub mod Fresh
 pub mod Accepted
+pub mod Directories
 pub mod Sections
 pub mod Written
 pub mod Steps
@@ -24,3 +26,5 @@ pub mod Owners
 pub mod Counters
 pub mod ObjectNumbers
 pub mod RoundTrips
+pub mod Flags
+pub mod Inheritance

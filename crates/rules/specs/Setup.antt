@@ -3,14 +3,14 @@ pub use Rattle.rules.specs.Kinds.{SetupRecord, recordNumber}
 pub use Rattle.rules.specs.declared.Reading.{Reading}
 use Rattle.answers.specs.declared.SetupOutcome.the-variants.{Accepted, Refused}
 use Rattle.answers.specs.declared.WriteOutcome.the-variants.{Written, NoRoom}
-use Prim.Native.Nat.{ℕ, zero, suc, _/_, _%_}
+use Prim.Native.Nat.{ℕ, zero, suc, _+_, _-_, _/_, _%_}
 use mathlib.Core.Bool.{Bool, true, false, cond}
 use mathlib.Core.List.{List, [], _∷_, _++_, map}
 use lib.Dec.{leb, ltb, eqb}
 use lib.ListN.{length, drop}
 use Rattle.rules.specs.Types.{SetupOutcome, WriteOutcome, Switches, User, Object, Facility}
-use Rattle.labels.specs.Decisions.{_and_, at}
-use Rattle.state.specs.State.{objectOf, userOf, live, switchesOf, allOff, addUser, addObject, blank}
+use Rattle.labels.specs.Decisions.{_and_, at, on}
+use Rattle.state.specs.State.{Objects, objectsIn, objectIn, objectOf, userOf, live, switchesOf, allOff, addUser, addObject, blank}
 use Rattle.labels.specs.Labels.{label}
 
 -- A record is 8 bytes, no header. Byte 0 is the kind: 3 switches, 1 user, 2 object (Kinds).
@@ -60,13 +60,22 @@ sized s = allowedLength (length s)
 
 -- the switches, the user and the object that a record enters
 abbrev pub switchesEntered : SetupRecord → Switches
-switchesEntered r = record { mac = r .one; fc = r .two; sim = r .three }
+switchesEntered r = record { mac = r .one; fc = r .two; sim = r .three; ff = r .four }
 
 abbrev pub userEntered : SetupRecord → User
 userEntered r = record { clearance = label (r .one); role = r .two; trusted = r .three }
 
 abbrev pub objectEntered : SetupRecord → Object
-objectEntered r = record { live = 1; kind = r .one; label = label (r .two); category = r .three; datatype = r .four }
+objectEntered r =
+    record {
+      live = 1;
+      kind = r .one;
+      label = label (r .two);
+      category = r .three;
+      datatype = r .four;
+      flags = r .five;
+      parent = r .six;
+    }
 
 -- the facility with one record more
 unfoldable pub enterRecord : Facility → SetupRecord → Facility
@@ -105,10 +114,10 @@ isAccepted (Refused n i) = false
 abbrev pub acceptedSetup : List ℕ → Bool
 acceptedSetup s = isAccepted ((readSetup s) .outcome)
 
--- Writing out: exactly switches, users, live objects in order.
+-- Writing out: exactly switches, users, live objects in order, with their parents by their new numbers.
 abbrev pub switchesRecord : Switches → SetupRecord
 switchesRecord s =
-    record { kind = 3; one = s .mac; two = s .fc; three = s .sim; four = 0; five = 0; six = 0; seven = 0 }
+    record { kind = 3; one = s .mac; two = s .fc; three = s .sim; four = s .ff; five = 0; six = 0; seven = 0 }
 
 abbrev pub userRecord : User → SetupRecord
 userRecord u =
@@ -131,8 +140,8 @@ objectRecord o =
       two = o .label .level;
       three = o .category;
       four = o .datatype;
-      five = 0;
-      six = 0;
+      five = o .flags;
+      six = o .parent;
       seven = 0;
     }
 
@@ -150,12 +159,42 @@ usersOf f = listed (f .users) every (userOf f)
 abbrev pub liveObjects : Facility → List Object
 liveObjects f = listed (f .entered) (live f) (objectOf f)
 
+-- the new number of object t: how many live ones are before it
+unfoldable pub newNumber : Objects → ℕ → ℕ
+newNumber x zero = 0
+newNumber x (suc t) = cond (on (at (x .lives) t)) (newNumber x t + 1) (newNumber x t)
+
+-- a parent, as its number plus 1, by its new number; a deleted one counts as none
+unfoldable pub newParent : Objects → ℕ → ℕ
+newParent x n = cond (ltb 0 n and on (at (x .lives) (n - 1))) (newNumber x (n - 1) + 1) 0
+
+abbrev pub withParent : Object → ℕ → Object
+withParent o n =
+    record {
+      live = o .live;
+      kind = o .kind;
+      label = o .label;
+      category = o .category;
+      datatype = o .datatype;
+      flags = o .flags;
+      parent = n;
+    }
+
+abbrev pub renumbered : Objects → Object → Object
+renumbered x o = withParent o (newParent x (o .parent))
+
+abbrev pub writtenObject : Objects → ℕ → Object
+writtenObject x t = renumbered x (objectIn x t)
+
+abbrev pub writtenObjects : Facility → List Object
+writtenObjects f = listed (f .entered) (live f) (writtenObject (objectsIn f))
+
 -- the sections, each the records of one kind, in the order of the table
 abbrev pub usersSection : Facility → List SetupRecord
 usersSection f = map userRecord (usersOf f)
 
 abbrev pub objectsSection : Facility → List SetupRecord
-objectsSection f = map objectRecord (liveObjects f)
+objectsSection f = map objectRecord (writtenObjects f)
 
 abbrev pub sections : List (Facility → List SetupRecord)
 sections = usersSection ∷ objectsSection ∷ []

@@ -35,11 +35,12 @@ pub struct Runs {
     pub receiver: u8,
 }
 
-// What a call's target is: as a process and as an object, and how the caller has it open.
+// What a call's target is: as a process and as an object, how the caller has it open, and its effective flags where FF is on.
 pub struct Target {
     pub receiver: Process,
     pub object: Object,
     pub opens: u8,
+    pub flags: u8,
 }
 
 // What a call looks at: the switches, the counts, the caller and its owner, and the target.
@@ -52,11 +53,12 @@ pub struct View {
     pub target: Target,
 }
 
-// What a byte of a set-up record may be: 0 alone; 0 up to a number; or that, or 255, which is unset.
+// What a byte of a set-up record may be: 0 alone; 0 up to a number; that, or 255, which is unset; or bits of a number alone.
 pub enum Byte {
     Zero,
     Upto(u8),
     OrUnset(u8),
+    Bits(u8),
 }
 
 // What is asked of a record's bytes together, beside what each may be.

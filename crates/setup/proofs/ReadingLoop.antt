@@ -13,10 +13,11 @@ use Rattle.rules.specs.declared.SetupRecord.{SetupRecord}
 use Rattle.rules.specs.Setup.{recordsOf, firstRecord, enterAll, enterRecord, refusedSetup, allowedLength, readSetup}
 use Rattle.state.specs.declared.Facility.{Facility}
 use Rattle.state.specs.State.{allOff, blank}
-use Rattle.setup.specs.Progress.{Progress, numberAfter, progressAfter}
-use Rattle.setup.proofs.SameNumber.{Kept, none, number-same, kept-more, kept-few}
+use Rattle.setup.specs.Progress.{Progress, progressAfter}
+use Rattle.setup.proofs.SameNumber.{Kept, none, numberBy, number-same, kept-more, kept-few}
 use Rattle.rules.specs.Kinds.{recordNumber}
 use Rattle.rules.specs.Proofs.Records.{accepts}
+use Rattle.rules.specs.Proofs.Fresh.{Read, read-record, read-none}
 use Rattle.answers.specs.declared.SetupOutcome.the-variants.{Accepted}
 use Rattle.labels.specs.Decisions.{at}
 use Rattle.labels.specs.Laws.Decisions.{and-r}
@@ -47,10 +48,12 @@ unfolding pastOf
 past-length s zero = refl
 past-length s (suc k) = ap suc (past-length s k)
 
--- What a reader at record k of n holds: the rest is read as the whole is, and what it keeps is kept of the records before k.
+-- What a reader at record k of n holds: the rest is read as the whole is, what it keeps is kept of the records before k, and what it has built
+-- was read from them.
 pub record At (s : List ℕ) (n k : ℕ) (f : Facility) (p : Progress) : Type 0 where
   pub whole : enterAll [] (blank allOff) (recordsOf n s) ≡ enterAll (pastOf s k) f (left s n k)
   pub kept : Kept p (pastOf s k)
+  pub read : Read (pastOf s k) f
 
 pub begins : (s : List ℕ) (n : ℕ) (f : Facility) (p : Progress) → f ≡ blank allOff → p ≡ record { kind = 0; count = 0 } → At s n 0 f p
 unfolding pastOf
@@ -59,6 +62,7 @@ begins s n f p a b =
     record {
       whole = (λ i. enterAll [] (sym a i) (recordsOf (e i) s));
       kept = none (ap (λ (x : Progress). x .kind) b) (ap (λ (x : Progress). x .count) b);
+      read = subst⁻¹ (Read []) a read-none;
     }
 
 module _ (s : List ℕ) (n k : ℕ) (f : Facility) (p : Progress) (r : SetupRecord) (h : k < n) (A : At s n k f p) (this : r ≡ firstRecord (drop (k * 8) s)) where
@@ -68,11 +72,11 @@ module _ (s : List ℕ) (n k : ℕ) (f : Facility) (p : Progress) (r : SetupReco
   past-this : pastOf s (k + 1) ≡ r ∷ pastOf s k
   past-this = past-more s k ∙ ap (λ (x : SetupRecord). x ∷ pastOf s k) (sym this)
 
-  number-is : numberAfter p r ≡ recordNumber (pastOf s k) r
-  number-is = number-same p (pastOf s k) r (A .kept)
+  number-is : numberBy p f r ≡ recordNumber (pastOf s k) r
+  number-is = number-same p (pastOf s k) f r (A .kept) (A .read .1)
 
   -- a record that is accepted is entered
-  pub goes-on : numberAfter p r ≡ 0 → At s n (k + 1) (enterRecord f r) (progressAfter p (r .kind))
+  pub goes-on : numberBy p f r ≡ 0 → At s n (k + 1) (enterRecord f r) (progressAfter p (r .kind))
   unfolding enterAll
   goes-on z =
       let e = sym number-is ∙ z in
@@ -80,10 +84,12 @@ module _ (s : List ℕ) (n k : ℕ) (f : Facility) (p : Progress) (r : SetupReco
         whole = A .whole ∙ ap (enterAll (pastOf s k) f) left-this
             ∙ rw (eq-eqb _ 0 e) (ap (λ (past : List SetupRecord). enterAll past (enterRecord f r) (left s n (k + 1))) (sym past-this));
         kept = subst⁻¹ (Kept (progressAfter p (r .kind))) past-this (kept-more p (pastOf s k) r (A .kept) (accepts (pastOf s k) r e .fits));
+        read = subst⁻¹ (λ (past : List SetupRecord). Read past (enterRecord f r)) past-this
+            (read-record (pastOf s k) f r (A .read) (accepts (pastOf s k) r e));
       }
 
   -- one that is refused ends the reading
-  pub stops : numberAfter p r ≢ 0 → refusedSetup (numberAfter p r) k ≡ enterAll [] (blank allOff) (recordsOf n s)
+  pub stops : numberBy p f r ≢ 0 → refusedSetup (numberBy p f r) k ≡ enterAll [] (blank allOff) (recordsOf n s)
   unfolding enterAll
   stops z =
       sym (A .whole ∙ ap (enterAll (pastOf s k) f) left-this

@@ -1,7 +1,7 @@
 -- What the reader keeps answers the questions as the records before do.
-use Prim.Native.Nat.{ℕ, _≤_, _+_}
+use Prim.Native.Nat.{ℕ, _≤_, _+_, _-_}
 use mathlib.Core.Path.{_≡_, refl, _∙_, ap, sym}
-use mathlib.Core.Bool.{true, Bool, false}
+use mathlib.Core.Bool.{true, Bool, false, not}
 use mathlib.Core.List.{List, [], _∷_}
 use mathlib.Core.Logic.{_≢_}
 use lib.Dec.{eqb, ltb}
@@ -11,12 +11,15 @@ use borrow.Author.Tests.{eq-eqb, ne-eqb}
 use Rattle.rules.specs.declared.SetupRecord.{SetupRecord}
 use Rattle.rules.specs.declared.Also.{Also}
 use Rattle.rules.specs.declared.Also.the-variants.{Nothing}
-use Rattle.rules.specs.Kinds.{alsoAllowed, countOf, kindOf, placeOf, fits, room, allowedBy, allowed, recordNumber}
+use Rattle.rules.specs.Kinds.{alsoAllowed, countOf, kindOf, placeOf, fits, room, allowedBy, allowed, parentFits, recordNumber}
+use Rattle.rules.specs.Proofs.Fresh.{Told}
+use Rattle.state.specs.declared.Facility.{Facility}
+use Rattle.state.specs.State.{objectIn}
 use Rattle.setup.specs.declared.Progress.{Progress}
 use Rattle.labels.specs.Laws.Decisions.{by-test, by-eq}
-use Rattle.setup.specs.Progress.{countAfter, fitsAfter, numberAfter, progressAfter}
+use Rattle.setup.specs.Progress.{countAfter, fitsAfter, numberAfter, parentFitsIn, progressAfter}
 use Rattle.rules.specs.Proofs.Past.{InOrder, order-none, count-same, order-more}
-use Rattle.labels.specs.Decisions.{ask}
+use Rattle.labels.specs.Decisions.{_and_, _or_, ask, at}
 
 -- of these kinds nothing is asked of the bytes together
 pub nothing-asked : (a : Also) (r : SetupRecord) → alsoAllowed a r ≡ true
@@ -60,11 +63,31 @@ unfolding ask
 ask-same a true n x y e h = rw e (h refl)
 ask-same a false n x y e h = rw e
 
-pub number-same : (p : Progress) (past : List SetupRecord) (r : SetupRecord) → Kept p past → numberAfter p r ≡ recordNumber past r
+-- a record without a parent fits, and one with a parent by its test
+pub none-fits : (kinds : List ℕ) (entered : ℕ) (r : SetupRecord) → r .six ≡ 0 → true ≡ parentFitsIn kinds entered r
+unfolding parentFitsIn _or_
+none-fits kinds entered r z = by-test (eqb (r .kind) 2) (λ e. rw (e, eq-eqb (r .six) 0 z)) (λ e. rw e)
+
+pub parent-fits : (kinds : List ℕ) (entered : ℕ) (r : SetupRecord) → r .six ≢ 0
+    → (not (eqb (r .kind) 2) or (ltb (r .six - 1) entered and eqb (at kinds (r .six - 1)) 1)) ≡ parentFitsIn kinds entered r
+unfolding parentFitsIn _or_
+parent-fits kinds entered r z = by-test (eqb (r .kind) 2) (λ e. rw (e, ne-eqb (r .six) 0 z)) (λ e. rw e)
+
+-- 19 is answered by the facility as by the records it was read from
+pub parent-fit-same : (past : List SetupRecord) (f : Facility) (r : SetupRecord) → Told past f → parentFitsIn (f .kinds) (f .entered) r ≡ parentFits past r
+unfolding parentFitsIn parentFits objectIn
+parent-fit-same past f r T = rw (T .directory (r .six - 1))
+
+-- the number that the reader gives: what it keeps is p, what it has built is f
+abbrev pub numberBy : Progress → Facility → SetupRecord → ℕ
+numberBy p f r = numberAfter p (parentFitsIn (f .kinds) (f .entered) r) r
+
+pub number-same : (p : Progress) (past : List SetupRecord) (f : Facility) (r : SetupRecord) → Kept p past → Told past f → numberBy p f r ≡ recordNumber past r
 unfolding numberAfter recordNumber room allowed
-number-same p past r K =
-    ask-same _ _ 15 _ _ (fits-same p past r K) (λ h.
-    ap (λ (n : ℕ). ask (ltb n ((kindOf (r .kind)) .most)) 16 (ask (allowedBy (kindOf (r .kind)) r) 17 0)) (count-is p past r K h))
+number-same p past f r K T =
+    ask-same _ _ 15 _ _ (fits-same p past r K) (λ h. λ i.
+    ask (ltb (count-is p past r K h i) ((kindOf (r .kind)) .most)) 16
+    (ask (allowedBy (kindOf (r .kind)) r) 17 (ask (parent-fit-same past f r T i) 19 0)))
 
 -- after a record that fits it is kept of one record more
 pub kept-more : (p : Progress) (past : List SetupRecord) (r : SetupRecord) → Kept p past → fits past r ≡ true → Kept (progressAfter p (r .kind)) (r ∷ past)

@@ -10,12 +10,15 @@ use native.Mathlib.Omega.{arith}
 use native.Mathlib.Numerals.{add-one}
 use borrow.Author.Tests.{le-leb, lt-leb, eq-eqb, ne-eqb}
 use Rattle.rules.specs.declared.SetupRecord.{SetupRecord}
-use Rattle.setup.specs.Writing.{sectionOf, putOne, putAll, Stored, liveRecord}
+use Rattle.setup.specs.Writing.{sectionOf, putOne, putAll, Stored, liveRecord, livesOnly}
+use Rattle.labels.specs.Decisions.{on}
 use Rattle.labels.specs.Laws.Decisions.{by-test}
-use Rattle.rules.specs.Setup.{bytesOf, listed, objectRecord, bytesOfAll, writeSetup, setupRecords, setupBytes}
+use Rattle.rules.specs.Setup.{bytesOf, listed, objectRecord, withParent, renumbered, bytesOfAll, writeSetup, setupRecords, setupBytes}
+use Rattle.rules.specs.Proofs.Parents.{parent-same}
 use Rattle.rules.specs.Proofs.Bytes.{map-append, map-length, bytes-length}
 use Rattle.rules.specs.Proofs.Listed.{listed-length}
 use Rattle.state.specs.declared.Object.{Object}
+use Rattle.state.specs.State.{Objects}
 use Rattle.opens.specs.Laws.Loops.{sets-append}
 use Rattle.answers.specs.declared.WriteOutcome.{WriteOutcome}
 use Rattle.state.specs.declared.Facility.{Facility}
@@ -35,7 +38,7 @@ put-length o p (r ∷ rs) =
     put-length (putOne o p r) (p + 8) rs
     ∙ by-test (leb (p + 8) (length o)) (λ e. rw e (length-sets o p (bytesOf r))) (λ e. rw e)
 
-pub stored-length : (o : List ℕ) (p : ℕ) (rs : List SetupRecord) (m : List ℕ) (q : ℕ) → Stored o p rs m q → length m ≡ length o
+stored-length : (o : List ℕ) (p : ℕ) (rs : List SetupRecord) (m : List ℕ) (q : ℕ) → Stored o p rs m q → length m ≡ length o
 stored-length o p rs m q s = ap length (s .buffer) ∙ put-length o p rs
 
 -- nothing is stored; one record; and what is stored behind
@@ -68,17 +71,6 @@ unfolding listed
 section-more item n test value =
     ap (λ (k : ℕ). sectionOf item k test value) (add-one n) ∙ map-append item (listed n test value) (cond (test n) (value n ∷ []) [])
 
-pub section-begins : {A : Type 0} (item : A → SetupRecord) (test : ℕ → Bool) (value : ℕ → A) (o : List ℕ) (p : ℕ)
-    → Stored o p (sectionOf item 0 test value) o p
-unfolding listed
-section-begins item test value o p = nothing o p
-
--- the law of all sections: what was stored of it, and the next number's stored behind
-pub section-goes-on : {A : Type 0} (item : A → SetupRecord) (n : ℕ) (test : ℕ → Bool) (value : ℕ → A) (o l m : List ℕ) (p q r : ℕ)
-    → Stored o p (sectionOf item n test value) l q → Stored l q (nextOf item n test value) m r → Stored o p (sectionOf item (n + 1) test value) m r
-section-goes-on item n test value o l m p q r a b =
-    subst (λ (rs : List SetupRecord). Stored o p rs m r) (sym (section-more item n test value)) (then o l m p q r _ _ a b)
-
 -- a section of n numbers takes at most 8 bytes for each
 pub section-most : {A : Type 0} (item : A → SetupRecord) (n : ℕ) (test : ℕ → Bool) (value : ℕ → A) (o l : List ℕ) (p q : ℕ)
     → Stored o p (sectionOf item n test value) l q → q ≤ p + n * 8
@@ -87,12 +79,50 @@ section-most item n test value o l p q a =
     let h = listed-length n test value in
     omega (arith, a .place)
 
--- A live object has its record, another none.
-pub live-stored : (o : List ℕ) (p : ℕ) (x : Object) (m : List ℕ) (q : ℕ) → x .live ≡ 1 → Stored o p (objectRecord x ∷ []) m q → Stored o p (liveRecord x) m q
-live-stored o p x m q h s = rw (eq-eqb _ 1 h) s
+-- What a loop that stores a section holds at number k of n: the section so far, from place p of the buffer o on.
+pub record Storing {A : Type 0} (item : A → SetupRecord) (test : ℕ → Bool) (value : ℕ → A) (n : ℕ) (o : List ℕ) (p k : ℕ) (m : List ℕ) (q : ℕ) : Type 0 where
+  pub most : k ≤ n
+  pub stored : Stored o p (sectionOf item k test value) m q
 
-pub dead-stored : (o : List ℕ) (p : ℕ) (x : Object) → (x .live ≡ 1 → ⊥) → Stored o p (liveRecord x) o p
-dead-stored o p x h = rw (ne-eqb _ 1 h) (nothing o p)
+module _ {A : Type 0} {item : A → SetupRecord} {test : ℕ → Bool} {value : ℕ → A} {n : ℕ} {o : List ℕ} {p : ℕ} where
+  pub section-begins : Storing item test value n o p 0 o p
+  unfolding listed
+  section-begins = record { most = omega arith; stored = nothing o p }
+
+  module _ {k q : ℕ} {l : List ℕ} (S : Storing item test value n o p k l q) where
+    -- the place is one that `put_record` takes, since a byte counts the numbers
+    pub section-place : p ≤ 65536 → n < 256 → q ≤ 131072
+    section-place b c = let h = section-most item k test value o l p q (S .stored) in omega (arith, S .most)
+
+    -- the next number's is stored behind
+    pub section-goes-on : {m : List ℕ} {r : ℕ} → k < n → Stored l q (nextOf item k test value) m r → Storing item test value n o p (k + 1) m r
+    section-goes-on {m} {r} h b =
+        record {
+          most = omega arith;
+          stored = subst (λ (rs : List SetupRecord). Stored o p rs m r) (sym (section-more item k test value)) (then o l m p q r _ _ (S .stored) b);
+        }
+
+    pub section-length : length l ≡ length o
+    section-length = stored-length _ _ _ _ _ (S .stored)
+
+    pub section-ends : n ≤ k → Stored o p (sectionOf item n test value) l q
+    section-ends h =
+        let e : k ≡ n = omega (arith, S .most) in
+        subst (λ (j : ℕ). Stored o p (sectionOf item j test value) l q) e (S .stored)
+
+-- A live object has its record, another none.
+pub live-stored : (o : List ℕ) (p : ℕ) (y : Objects) (x : Object) (m : List ℕ) (q : ℕ) → x .live ≡ 1
+    → Stored o p (objectRecord (renumbered y x) ∷ []) m q → Stored o p (liveRecord y x) m q
+live-stored o p y x m q h s = rw (eq-eqb _ 1 h) s
+
+pub dead-stored : (o : List ℕ) (p : ℕ) (y : Objects) (x : Object) → (x .live ≡ 1 → ⊥) → Stored o p (liveRecord y x) o p
+dead-stored o p y x h = rw (ne-eqb _ 1 h) (nothing o p)
+
+-- parents' new numbers look only at which objects live
+pub record-told : (x : Objects) (o : Object) → liveRecord (livesOnly (x .lives)) o ≡ liveRecord x o
+record-told x o =
+    ap (λ (n : ℕ). map objectRecord (cond (on (o .live)) (withParent o n ∷ []) []))
+    (parent-same x (livesOnly (x .lives)) (o .parent) (o .parent) (λ z. omega arith) (λ t b. refl))
 
 -- In a buffer without bytes nothing is stored; where there is room, all bytes are.
 pub put-none : (p : ℕ) (rs : List SetupRecord) → putAll [] p rs ≡ []

@@ -7,8 +7,8 @@ use lib.Dec.{leb}
 use lib.ListN.{length}
 use lib.Seq.{sets}
 use Rattle.rules.specs.declared.SetupRecord.{SetupRecord}
-use Rattle.rules.specs.Setup.{bytesOf, userRecord, every, listed, objectRecord}
-use Rattle.state.specs.State.{Users, userIn, Objects, objectIn}
+use Rattle.rules.specs.Setup.{bytesOf, userRecord, every, listed, objectRecord, renumbered, writtenObject}
+use Rattle.state.specs.State.{Users, userIn, Objects, objectIn, objectsFrom}
 use Rattle.state.specs.declared.Object.{Object}
 use Rattle.labels.specs.Decisions.{on}
 
@@ -37,7 +37,12 @@ abbrev pub userRecords : ℕ → Users → List SetupRecord
 userRecords n x = sectionOf userRecord n every (userIn x)
 
 abbrev pub objectRecords : ℕ → Objects → List SetupRecord
-objectRecords n x = sectionOf objectRecord n (liveIn x) (objectIn x)
+objectRecords n x = sectionOf objectRecord n (liveIn x) (writtenObject x)
 
-abbrev pub liveRecord : Object → List SetupRecord
-liveRecord o = map objectRecord (cond (on (o .live)) (o ∷ []) [])
+-- the record of an object, where it is live, with its parent by its new number among x
+abbrev pub liveRecord : Objects → Object → List SetupRecord
+liveRecord x o = map objectRecord (cond (on (o .live)) (renumbered x o ∷ []) [])
+
+-- objects of which only the live ones are told: new numbers look at nothing else
+abbrev pub livesOnly : List ℕ → Objects
+livesOnly l = objectsFrom l [] [] [] [] [] []

@@ -4,10 +4,10 @@ ghost use mathlib.Core.List.{[], _∷_};
 ghost use mathlib.Core.Path.{_≡_};
 ghost use lib.ListN.{drop};
 ghost use Rattle.rules.specs.Kinds.{allowedBy, alsoAllowed, byteAllowed, kindOf, noKind, objectsKind, switchesKind, usersKind};
-ghost use Rattle.rules.specs.Setup.{allowedLength, enterAll, enterRecord, firstRecord, objectEntered, objectRecord, readSetup, recordsOf, refusedSetup};
-ghost use Rattle.rules.specs.Setup.{setupRecords, switchesEntered, switchesRecord, userEntered, userRecord, writeSetup};
-ghost use Rattle.setup.specs.Progress.{countAfter, fitsAfter, numberAfter, progressAfter};
-ghost use Rattle.setup.specs.Writing.{liveRecord, objectRecords, Stored, userRecords};
+ghost use Rattle.rules.specs.Setup.{allowedLength, enterAll, enterRecord, firstRecord, newNumber, newParent, objectEntered, objectRecord, readSetup};
+ghost use Rattle.rules.specs.Setup.{recordsOf, refusedSetup, renumbered, setupRecords, switchesEntered, switchesRecord, userEntered, userRecord, writeSetup};
+ghost use Rattle.setup.specs.Progress.{countAfter, fitsAfter, numberAfter, parentFitsIn, progressAfter};
+ghost use Rattle.setup.specs.Writing.{liveRecord, livesOnly, objectRecords, Stored, userRecords};
 ghost use Rattle.state.specs.State.{allOff, blank, objectsFrom, usersFrom};
 ghost use Rattle.labels.specs.Decisions.{ask};
 use answers::SetupOutcome;
@@ -60,7 +60,7 @@ fn switches_kind() -> Kind
         one: Byte::Upto(1),
         two: Byte::Upto(1),
         three: Byte::Upto(1),
-        four: Byte::Zero,
+        four: Byte::Upto(1),
         five: Byte::Zero,
         six: Byte::Zero,
         seven: Byte::Zero,
@@ -85,6 +85,9 @@ fn users_kind() -> Kind
     }
 }
 
+// All flags of an object: 1 + 2 + 4 + 8 + 128.
+const ALL_FLAGS: u8 = 143;
+
 fn objects_kind() -> Kind
     ensures { λ x. ⌜ x ≡ objectsKind ⌝ }
 {
@@ -95,8 +98,8 @@ fn objects_kind() -> Kind
         two: Byte::OrUnset(15),
         three: Byte::OrUnset(2),
         four: Byte::Upto(1),
-        five: Byte::Zero,
-        six: Byte::Zero,
+        five: Byte::Bits(ALL_FLAGS),
+        six: Byte::Upto(255),
         seven: Byte::Zero,
         also: Also::Nothing,
     }
@@ -165,6 +168,7 @@ fn byte_allowed(test: Byte, b: u8) -> bool
         Byte::Zero => b == 0,
         Byte::Upto(n) => b <= n,
         Byte::OrUnset(n) => (b <= n) | (b == labels::UNSET),
+        Byte::Bits(n) => (b & n) == b,
     }
 }
 
@@ -196,15 +200,31 @@ fn allowed_by(d: Kind, r: SetupRecord) -> bool
                             & (byte_allowed(seven, r.seven) & also_allowed(also, r)))))))
 }
 
-// The questions 15 to 17 of one record.
-fn record_number(before: Progress, r: SetupRecord) -> u8
-    ensures { λ x. ⌜ x ≡ numberAfter before r ⌝ }
+// 19: is the parent of an object none, or the number plus 1 of one of the `entered` objects that is a directory?
+fn parent_fits(kinds: &[u8], entered: u8, r: SetupRecord) -> bool
+    ensures { λ x. ⌜ x ≡ parentFitsIn (now (kinds .entry)) entered r ⌝ }
+{
+    if r.six == 0 {
+        return true;
+    }
+    let t = r.six - 1;
+    let directory = labels::at(kinds, t as usize) == 1;
+    (r.kind != 2) | ((t < entered) & directory)
+}
+
+// The questions 15 to 17 and 19 of one record, where `fit` answers 19.
+fn record_number(before: Progress, fit: bool, r: SetupRecord) -> u8
+    ensures { λ x. ⌜ x ≡ numberAfter before fit r ⌝ }
 {
     let d = kind_of(r.kind);
     let fits = fits(before, d.place);
     let room = count_of(before, r.kind) < d.most;
     let allowed = allowed_by(d, r);
-    labels::ask(fits, 15, labels::ask(room, 16, labels::ask(allowed, 17, 0)))
+    labels::ask(
+        fits,
+        15,
+        labels::ask(room, 16, labels::ask(allowed, 17, labels::ask(fit, 19, 0))),
+    )
 }
 
 // What is kept with one record more.
@@ -226,6 +246,7 @@ fn switches_entered(r: SetupRecord) -> Switches
         mac: r.one,
         fc: r.two,
         sim: r.three,
+        ff: r.four,
     }
 }
 
@@ -248,6 +269,8 @@ fn object_entered(r: SetupRecord) -> Object
         label: Label { level: r.two },
         category: r.three,
         datatype: r.four,
+        flags: r.five,
+        parent: r.six,
     }
 }
 
@@ -283,7 +306,8 @@ fn read_records(s: &[u8], count: u16) -> Reading
     let mut k: u16 = 0;
     while k < count {
         let r = record_at(s, k);
-        let number = record_number(before, r);
+        let fit = parent_fits(&f.kinds, f.entered, r);
+        let number = record_number(before, fit, r);
         if number != 0 {
             return refused(number, k);
         }
@@ -317,7 +341,7 @@ fn switches_record(s: Switches) -> SetupRecord
         one: s.mac,
         two: s.fc,
         three: s.sim,
-        four: 0,
+        four: s.ff,
         five: 0,
         six: 0,
         seven: 0,
@@ -348,8 +372,8 @@ fn object_record(o: Object) -> SetupRecord
         two: o.label.level,
         three: o.category,
         four: o.datatype,
-        five: 0,
-        six: 0,
+        five: o.flags,
+        six: o.parent,
         seven: 0,
     }
 }
@@ -398,13 +422,52 @@ fn put_users<'a>(
     place
 }
 
-// A live object's record; none of one that is not live.
-fn put_live(out: &mut [u8], place: usize, o: Object) -> usize
+// The new number of object t: how many live ones are before it. It is counted anew for each parent: there are few objects.
+fn new_number(lives: &[u8], t: u8) -> u8
+    ensures { λ x. ⌜ x ≡ newNumber (livesOnly (now (lives .entry))) t ⌝ }
+{
+    let mut n: u8 = 0;
+    let mut k: u8 = 0;
+    while k < t {
+        if labels::at(lives, k as usize) == 1 {
+            n += 1;
+        }
+        k += 1;
+    }
+    n
+}
+
+// A parent, as its number plus 1, by its new number; none for a deleted one.
+fn new_parent(lives: &[u8], parent: u8) -> u8
+    ensures { λ x. ⌜ x ≡ newParent (livesOnly (now (lives .entry))) parent ⌝ }
+{
+    if parent == 0 {
+        return 0;
+    }
+    let t = parent - 1;
+    if labels::at(lives, t as usize) != 1 {
+        return 0;
+    }
+    new_number(lives, t) + 1
+}
+
+// The object with its parent by its new number.
+fn renumbered(lives: &[u8], o: Object) -> Object
+    ensures { λ x. ⌜ x ≡ renumbered (livesOnly (now (lives .entry))) o ⌝ }
+{
+    let parent = new_parent(lives, o.parent);
+    let mut written = o;
+    written.parent = parent;
+    written
+}
+
+// A live object's record, with its parent's new number; none of one that is not live.
+fn put_live(out: &mut [u8], place: usize, lives: &[u8], o: Object) -> usize
     requires { ⌜ place ≤ 131072 ⌝ }
-    ensures { λ x. ⌜ Stored (now (out .entry)) place (liveRecord o) (now (out .exit)) x ⌝ }
+    ensures { λ x. ⌜ Stored (now (out .entry)) place (liveRecord (livesOnly (now (lives .entry))) o) (now (out .exit)) x ⌝ }
 {
     if o.live == 1 {
-        let r = object_record(o);
+        let r = object_record(renumbered(lives, o));
         return put_record(out, place, r);
     }
     place
@@ -419,18 +482,29 @@ fn put_objects<'a>(
     levels: &'a [u8],
     categories: &'a [u8],
     datatypes: &'a [u8],
+    flags: &'a [u8],
+    parents: &'a [u8],
     n: u8,
 ) -> usize
     requires { ⌜ start ≤ 65536 ⌝ }
     ensures { λ x. ⌜ Stored (now (out .entry)) start
-        (objectRecords n (objectsFrom (now (lives .entry)) (now (kinds .entry)) (now (levels .entry)) (now (categories .entry)) (now (datatypes .entry))))
-        (now (out .exit)) x ⌝ }
+        (objectRecords n (objectsFrom (now (lives .entry)) (now (kinds .entry)) (now (levels .entry)) (now (categories .entry)) (now (datatypes .entry))
+        (now (flags .entry)) (now (parents .entry)))) (now (out .exit)) x ⌝ }
 {
     let mut place = start;
     let mut k: u8 = 0;
     while k < n {
-        let o = state::object_at(lives, kinds, levels, categories, datatypes, k as usize);
-        place = put_live(out, place, o);
+        let o = state::object_at(
+            lives,
+            kinds,
+            levels,
+            categories,
+            datatypes,
+            flags,
+            parents,
+            k as usize,
+        );
+        place = put_live(out, place, lives, o);
         k += 1;
     }
     place
@@ -444,6 +518,7 @@ fn put_sections(f: Facility, out: &mut [u8]) -> usize
         mac: f.mac,
         fc: f.fc,
         sim: f.sim,
+        ff: f.ff,
     };
     let first = switches_record(switches);
     let users = put_record(out, 0, first);
@@ -456,6 +531,8 @@ fn put_sections(f: Facility, out: &mut [u8]) -> usize
         &f.levels,
         &f.categories,
         &f.datatypes,
+        &f.flags,
+        &f.parents,
         f.entered,
     )
 }

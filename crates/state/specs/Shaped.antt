@@ -16,6 +16,8 @@ pub record ObjectsShaped (x : Objects) : Type 0 where
   pub levels : length (x .levels) ≡ mostObjects
   pub categories : length (x .categories) ≡ mostObjects
   pub datatypes : length (x .datatypes) ≡ mostObjects
+  pub flags : length (x .flags) ≡ mostObjects
+  pub parents : length (x .parents) ≡ mostObjects
 
 pub record ProcessesShaped (x : Processes) : Type 0 where
   pub runnings : length (x .runnings) ≡ mostProcesses

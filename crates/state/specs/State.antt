@@ -39,6 +39,8 @@ pub record Objects : Type 0 where
   pub levels : List ℕ
   pub categories : List ℕ
   pub datatypes : List ℕ
+  pub flags : List ℕ
+  pub parents : List ℕ
 
 pub record Processes : Type 0 where
   pub runnings : List ℕ
@@ -51,8 +53,8 @@ pub record Processes : Type 0 where
 abbrev pub usersFrom : List ℕ → List ℕ → List ℕ → Users
 usersFrom a b c = record { clearances = a; roles = b; trusts = c }
 
-abbrev pub objectsFrom : List ℕ → List ℕ → List ℕ → List ℕ → List ℕ → Objects
-objectsFrom a b c d e = record { lives = a; kinds = b; levels = c; categories = d; datatypes = e }
+abbrev pub objectsFrom : List ℕ → List ℕ → List ℕ → List ℕ → List ℕ → List ℕ → List ℕ → Objects
+objectsFrom a b c d e f g = record { lives = a; kinds = b; levels = c; categories = d; datatypes = e; flags = f; parents = g }
 
 abbrev pub processesFrom : List ℕ → List ℕ → List ℕ → List ℕ → List ℕ → List ℕ → Processes
 processesFrom a b c d e f = record { runnings = a; owners = b; currents = c; readmarks = d; writemarks = e; automatics = f }
@@ -61,7 +63,7 @@ abbrev pub usersIn : Facility → Users
 usersIn f = usersFrom (f .clearances) (f .roles) (f .trusts)
 
 abbrev pub objectsIn : Facility → Objects
-objectsIn f = objectsFrom (f .lives) (f .kinds) (f .levels) (f .categories) (f .datatypes)
+objectsIn f = objectsFrom (f .lives) (f .kinds) (f .levels) (f .categories) (f .datatypes) (f .flags) (f .parents)
 
 abbrev pub processesIn : Facility → Processes
 processesIn f = processesFrom (f .runnings) (f .owners) (f .currents) (f .readmarks) (f .writemarks) (f .automatics)
@@ -86,6 +88,8 @@ objectIn x t =
       label = label (at (x .levels) t);
       category = at (x .categories) t;
       datatype = at (x .datatypes) t;
+      flags = at (x .flags) t;
+      parent = at (x .parents) t;
     }
 
 unfoldable pub userIn : Users → ℕ → User
@@ -107,10 +111,10 @@ userOf f u = userIn (usersIn f) u
 
 -- its switches, and those with all off
 abbrev pub switchesOf : Facility → Switches
-switchesOf f = record { mac = f .mac; fc = f .fc; sim = f .sim }
+switchesOf f = record { mac = f .mac; fc = f .fc; sim = f .sim; ff = f .ff }
 
 abbrev pub allOff : Switches
-allOff = record { mac = 0; fc = 0; sim = 0 }
+allOff = record { mac = 0; fc = 0; sim = 0; ff = 0 }
 
 -- whether process p runs, object t is live, u is a user, and u is a trusted one
 abbrev pub runs : Facility → ℕ → Bool
@@ -166,6 +170,9 @@ with f users us entered os ps opens refusals =
       automatics = ps .automatics;
       opens = opens;
       refusals = refusals;
+      ff = f .ff;
+      flags = os .flags;
+      parents = os .parents;
     }
 
 -- The ways in which a facility changes: a process, the opens, a new user, a new object, a dropped object, the counters.
@@ -207,7 +214,9 @@ putObject f o =
     (set (f .kinds) (f .entered) (o .kind))
     (set (f .levels) (f .entered) (o .label .level))
     (set (f .categories) (f .entered) (o .category))
-    (set (f .datatypes) (f .entered) (o .datatype)))
+    (set (f .datatypes) (f .entered) (o .datatype))
+    (set (f .flags) (f .entered) (o .flags))
+    (set (f .parents) (f .entered) (o .parent)))
     (processesIn f) (f .opens) (f .refusals)
 
 -- one more user, and one more object, where there is room
@@ -221,7 +230,7 @@ addObject f o = cond (ltb (f .entered) mostObjects) (putObject f o) f
 unfoldable pub dropObject : Facility → ℕ → Facility
 dropObject f t =
     with f (f .users) (usersIn f) (f .entered)
-    (objectsFrom (set (f .lives) t 0) (f .kinds) (f .levels) (f .categories) (f .datatypes))
+    (objectsFrom (set (f .lives) t 0) (f .kinds) (f .levels) (f .categories) (f .datatypes) (f .flags) (f .parents))
     (processesIn f) (f .opens) (f .refusals)
 
 unfoldable pub putRefusals : Facility → List ℕ → Facility
@@ -319,4 +328,7 @@ blank s =
       automatics = replicate mostProcesses 0;
       opens = replicate mostOpens 0;
       refusals = replicate mostUsers 0;
+      ff = s .ff;
+      flags = replicate mostObjects 0;
+      parents = replicate mostObjects 0;
     }

@@ -56,6 +56,10 @@ pub struct Object {
     pub label: Label,
     pub category: u8,
     pub datatype: u8,
+    // 1 read-only, 2 no-execute, 4 no-delete, 8 search-only, 128 add-inherited.
+    pub flags: u8,
+    // The parent directory's number plus 1, 0 for none.
+    pub parent: u8,
 }
 
 // Which modules are on, each 0 or 1.
@@ -64,6 +68,7 @@ pub struct Switches {
     pub mac: u8,
     pub fc: u8,
     pub sim: u8,
+    pub ff: u8,
 }
 
 // What a call changes; p and t are numbers of processes or objects.
@@ -134,6 +139,10 @@ pub struct Facility {
     pub opens: [u8; PAIRS],
     // Calls refused with 12 or 13, by user: the owner of the calling process. Each up to 4,294,967,295.
     pub refusals: [u32; USERS],
+    // What came later stands behind, so that no earlier field moves: the fourth switch, and objects' flags and parents by object number.
+    pub ff: u8,
+    pub flags: [u8; OBJECTS],
+    pub parents: [u8; OBJECTS],
 }
 
 impl Process {
@@ -208,10 +217,12 @@ pub fn object_at<'a>(
     levels: &'a [u8],
     categories: &'a [u8],
     datatypes: &'a [u8],
+    flags: &'a [u8],
+    parents: &'a [u8],
     t: usize,
 ) -> Object
     ensures { λ r. ⌜ r ≡ objectIn (objectsFrom (now (lives .entry)) (now (kinds .entry)) (now (levels .entry)) (now (categories .entry))
-        (now (datatypes .entry))) t ⌝ }
+        (now (datatypes .entry)) (now (flags .entry)) (now (parents .entry))) t ⌝ }
 {
     let label = label_at(levels, t);
     Object {
@@ -220,6 +231,8 @@ pub fn object_at<'a>(
         label,
         category: labels::at(categories, t),
         datatype: labels::at(datatypes, t),
+        flags: labels::at(flags, t),
+        parent: labels::at(parents, t),
     }
 }
 
@@ -261,6 +274,7 @@ impl Switches {
             mac: 0,
             fc: 0,
             sim: 0,
+            ff: 0,
         }
     }
 }
@@ -293,6 +307,9 @@ impl Facility {
             automatics: [0; PROCESSES],
             opens: [0; PAIRS],
             refusals: [0; USERS],
+            ff: s.ff,
+            flags: [0; OBJECTS],
+            parents: [0; OBJECTS],
         }
     }
 
@@ -365,6 +382,8 @@ impl Facility {
             &self.levels,
             &self.categories,
             &self.datatypes,
+            &self.flags,
+            &self.parents,
             i,
         )
     }
@@ -432,6 +451,8 @@ impl Facility {
             self.levels[i] = o.label.level;
             self.categories[i] = o.category;
             self.datatypes[i] = o.datatype;
+            self.flags[i] = o.flags;
+            self.parents[i] = o.parent;
             self.entered = n + 1;
         }
         self

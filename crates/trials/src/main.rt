@@ -1,8 +1,8 @@
 // Cases from standard input: a set-up behind its length in two bytes, then calls behind theirs in four, low byte first. Of a refused set-up
 // its line. Of an accepted one: what it gives written out into a buffer of its length and into one a byte shorter, and a line `touched` where
 // a byte that is to stay does not; the lines of the run program; of how many calls query says what enforce does, in number, answers and object
-// number, and of what replay returns the sixteen counters of refusals, the objects entered, and the length and a sum of the bytes of the set-up written
-// out; then how many pairs of objects the account has of which the first holds the matter of the second.
+// number, and of what replay returns the sixteen counters of refusals, the objects entered, the length and a sum of the bytes of the set-up written
+// out, and a sum of the effective flags; then how many pairs of objects the account has of which the first holds the matter of the second.
 ghost use Prim.Native.Nat.{_≤_};
 use answers::Answers;
 use answers::Outcome;
@@ -37,9 +37,10 @@ fn answers_number(a: Answers) -> u64 {
     let mac = a.mac;
     let fc = a.fc;
     let sim = a.sim;
+    let ff = a.ff;
     let combined = a.combined;
-    let modules = (mac.code() as u64) + (fc.code() as u64) * 256 + (sim.code() as u64) * 65536;
-    modules + (combined.code() as u64) * 16777216
+    let first = (mac.code() as u64) + (fc.code() as u64) * 4 + (sim.code() as u64) * 16;
+    first + (ff.code() as u64) * 64 + (combined.code() as u64) * 256
 }
 
 // Whether two outcomes have the same number, answers and object number.
@@ -171,10 +172,10 @@ fn show_written(f: Facility, out: &mut [u8]) {
     match w {
         WriteOutcome::Written { length } => {
             show(length as u64, b' ');
-            show(weighed(out, length), b'\n');
+            show(weighed(out, length), b' ');
         }
         WriteOutcome::NoRoom => {
-            io::write_all(STDOUT_FILENO, b"18\n");
+            io::write_all(STDOUT_FILENO, b"18 ");
         }
     }
 }
@@ -188,6 +189,27 @@ fn show_refusals(refusals: &[u32]) {
     }
 }
 
+// The effective flags of object t, and 0 of one that is not live.
+fn live_flags<'a>(lives: &'a [u8], flags: &'a [u8], parents: &'a [u8], t: usize) -> u8 {
+    if labels::at(lives, t) == 1 {
+        return flags::effective_at(lives, flags, parents, t);
+    }
+    0
+}
+
+// The sum of (t + 1) times the effective flags of object t over the live objects, by sums of the flags from each object on.
+fn weighed_flags<'a>(lives: &'a [u8], flags: &'a [u8], parents: &'a [u8]) -> u64 {
+    let mut t = state::OBJECTS;
+    let mut tail: u64 = 0;
+    let mut sum: u64 = 0;
+    while 0 < t {
+        t -= 1;
+        tail = (tail + (live_flags(lives, flags, parents, t) as u64)) % 4294967296;
+        sum = (sum + tail) % 4294967296;
+    }
+    sum
+}
+
 fn show_state(f: Facility, agreed: u64) {
     io::write_all(STDOUT_FILENO, b"state ");
     show(agreed, b' ');
@@ -195,6 +217,7 @@ fn show_state(f: Facility, agreed: u64) {
     show(f.entered as u64, b' ');
     let mut out = io::buffer();
     show_written(f, &mut out);
+    show(weighed_flags(&f.lives, &f.flags, &f.parents), b'\n');
 }
 
 // How many of the object numbers below n object x holds the matter of.

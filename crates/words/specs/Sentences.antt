@@ -1,26 +1,32 @@
 -- The line of a call in words.
+pub use Rattle.words.specs.declared.Reason.{Reason}
+pub use Rattle.words.specs.declared.Told.{Told}
 use Prim.Native.Nat.{ℕ}
+use mathlib.Core.Path.{_≡_, refl}
 use mathlib.Core.Bool.{cond}
 use mathlib.Core.List.{List, [], _∷_, _++_}
 use Rattle.state.specs.declared.Call.{Call}
 use Rattle.state.specs.declared.Facility.{Facility}
-use Rattle.state.specs.declared.Object.{Object}
 use Rattle.answers.specs.declared.Outcome.{Outcome}
 use Rattle.state.specs.declared.Process.{Process}
 use Rattle.state.specs.declared.User.{User}
 use Rattle.labels.specs.Decisions.{on}
-use Rattle.answers.specs.Answers.{code}
+use Rattle.answers.specs.declared.Answer.{Answer}
+use Rattle.answers.specs.Answers.{code, isNotGranted}
 use Rattle.answers.specs.Outcomes.{numberOf, answersOf, denies}
-use Rattle.state.specs.State.{refusalsOf}
+use Rattle.state.specs.State.{objectsIn, refusalsOf}
 use Rattle.rules.specs.declared.Action.{Action}
 use Rattle.rules.specs.declared.Action.the-variants.{Login, Clone, SendSignal, SetLevel, Terminate, Create, OnObject, Unknown}
+use Rattle.rules.specs.declared.Target.{Target}
 use Rattle.rules.specs.declared.View.{View}
 use Rattle.rules.specs.Requests.{actionOf, inDirectory}
-use Rattle.rules.specs.Modules.{viewOf}
+use Rattle.rules.specs.FileFlags.{readOnly, noExecute, noDelete, searchOnly, addInherited, has, forbidding, flagSource}
+use Rattle.rules.specs.Modules.{viewOf, classIn}
 use Rattle.rules.specs.Calls.{query, after, ownerIn}
 use Rattle.rules.specs.Lines.{decimal, lineFeed}
 use Rattle.rules.specs.Text.{ascii}
-use Rattle.words.specs.Patterns.{filled}
+use Rattle.words.specs.Words.{flagWord}
+use Rattle.words.specs.Patterns.{filled, filledFrom, said}
 
 -- a process: its owner with the clearance, its current level and its marks
 abbrev pub processText : Process → User → List ℕ
@@ -30,52 +36,94 @@ processText r u =
     (r .owner ∷ u .clearance .level ∷ r .current .level ∷ r .readmark .level ∷ r .writemark .level ∷ []))
     (ascii "not running")
 
--- an object: its number, and its kind and level where it is live
-abbrev pub objectText : ℕ → Object → List ℕ
-objectText t o =
-    cond (on (o .live)) (filled (ascii " object # (%, level $)") (t ∷ o .kind ∷ o .label .level ∷ [])) (filled (ascii " object # (not live)") (t ∷ []))
+-- a flag where it is among v, and all that are
+unfoldable pub flagText : ℕ → ℕ → List ℕ
+flagText m v = cond (has m v) (filled (ascii ", \"") (m ∷ [])) []
+
+unfoldable pub flagsText : ℕ → List ℕ
+flagsText v = flagText readOnly v ++ flagText noExecute v ++ flagText noDelete v ++ flagText searchOnly v ++ flagText addInherited v
+
+example : flagsText 129 ≡ ascii ", read-only, add-inherited"
+unfolding has flagWord said filledFrom flagText flagsText
+example = refl
+
+-- an object: its number, and its kind, its level and the flags that FF sees where it is live
+abbrev pub objectText : ℕ → Target → List ℕ
+objectText t x =
+    cond (on (x .object .live))
+    (filled (ascii " object # (%, level $") (t ∷ x .object .kind ∷ x .object .label .level ∷ []) ++ flagsText (x .flags) ++ ascii ")")
+    (filled (ascii " object # (not live)") (t ∷ []))
 
 -- what a create makes, and in which directory
-abbrev pub createText : Call → Object → List ℕ
-createText c o =
-    cond (inDirectory (c .extra)) (filled (ascii " % in") (c .extra ∷ []) ++ objectText (c .target) o) (filled (ascii " %") (c .extra ∷ []))
+abbrev pub createText : Call → Target → List ℕ
+createText c x =
+    cond (inDirectory (c .extra)) (filled (ascii " % in") (c .extra ∷ []) ++ objectText (c .target) x) (filled (ascii " %") (c .extra ∷ []))
 
 -- what a request is about
-abbrev pub targetText : Action → Call → Object → List ℕ
-targetText Login c o = filled (ascii " user #") (c .extra ∷ [])
-targetText Clone c o = filled (ascii " process #") (c .target ∷ [])
-targetText SendSignal c o = filled (ascii " process #") (c .target ∷ [])
-targetText SetLevel c o = filled (ascii " level #") (c .extra ∷ [])
-targetText Terminate c o = []
-targetText Create c o = createText c o
-targetText OnObject c o = objectText (c .target) o
-targetText Unknown c o = filled (ascii " number #") (c .request ∷ [])
+abbrev pub targetText : Action → Call → Target → List ℕ
+targetText Login c x = filled (ascii " user #") (c .extra ∷ [])
+targetText Clone c x = filled (ascii " process #") (c .target ∷ [])
+targetText SendSignal c x = filled (ascii " process #") (c .target ∷ [])
+targetText SetLevel c x = filled (ascii " level #") (c .extra ∷ [])
+targetText Terminate c x = []
+targetText Create c x = createText c x
+targetText OnObject c x = objectText (c .target) x
+targetText Unknown c x = filled (ascii " number #") (c .request ∷ [])
 
 -- who calls, and what for
 abbrev pub beforeText : ℕ → Call → View → List ℕ
 beforeText i c v =
     decimal i ++ filled (ascii " process # (") (c .process ∷ []) ++ processText (v .caller) (v .owner) ++ filled (ascii "): &") (c .request ∷ [])
 
+-- the flag by which FF does not grant, and the object that it comes from
+abbrev pub reasonText : Answer → Reason → List ℕ
+reasonText a r = cond (isNotGranted a) (filled (ascii " by \" of object #") (r .flag ∷ r .source ∷ [])) []
+
 -- what the modules answer, and the number with what it says
-abbrev pub outcomeText : Outcome → List ℕ
-outcomeText o =
+abbrev pub outcomeText : Outcome → Reason → List ℕ
+outcomeText o r =
     let a = answersOf o in
-    filled (ascii ": MAC ', FC ', SIM ', combined ': # !; then ")
-    (code (a .mac) ∷ code (a .fc) ∷ code (a .sim) ∷ code (a .combined) ∷ numberOf o ∷ numberOf o ∷ [])
+    filled (ascii ": MAC ', FC ', SIM ', FF '") (code (a .mac) ∷ code (a .fc) ∷ code (a .sim) ∷ code (a .ff) ∷ [])
+    ++ reasonText (a .ff) r
+    ++ filled (ascii ", combined ': # !; then ") (code (a .combined) ∷ numberOf o ∷ numberOf o ∷ [])
 
 -- after a denial, how many refusals of the caller's owner are counted
 abbrev pub countText : Outcome → View → ℕ → List ℕ
 countText o v n = cond (denies (numberOf o)) (filled (ascii "; refusals of user #: ") (v .caller .owner ∷ []) ++ decimal n) []
 
--- the line of call c, the i-th, which looks at v, comes to o, and would look at w after it; n is then the counter of the caller's owner
-abbrev pub sentenceText : ℕ → Call → View → Outcome → View → ℕ → List ℕ
-sentenceText i c v o w n =
-    beforeText i c v ++ targetText (actionOf (c .request)) c (v .target .object) ++ outcomeText o ++ processText (w .caller) (w .owner) ++ countText o v n
+-- the line of a call by what is told of it
+abbrev pub sentenceText : Told → List ℕ
+sentenceText t =
+    beforeText (t .index) (t .call) (t .before)
+    ++ targetText (actionOf (t .call .request)) (t .call) (t .before .target)
+    ++ outcomeText (t .outcome) (t .reason)
+    ++ processText (t .later .caller) (t .later .owner)
+    ++ countText (t .outcome) (t .before) (t .count)
     ++ (lineFeed ∷ [])
 
+-- the first flag that forbids call c, which looks at v, and the object of f whose own flag it is
+unfoldable pub reasonIn : Facility → View → Call → Reason
+reasonIn f v c =
+    let m = forbidding (v .target .flags) (c .request) (classIn v c) (v .target .object .kind) in
+    record { flag = m; source = flagSource (objectsIn f) (c .target) m }
+
+-- what is told of call c, the i-th, enforced on f: what it looks at, why FF does not grant it, what it comes to, what it would look at after it,
+-- and the counter of the caller's owner then
+unfoldable pub told : ℕ → Facility → Call → Told
+told i f c =
+    record {
+      index = i;
+      call = c;
+      before = viewOf f c;
+      reason = reasonIn f (viewOf f c) c;
+      outcome = query f c;
+      later = viewOf (after f c) c;
+      count = refusalsOf (after f c) (ownerIn f c);
+    }
+
 -- the line of call c, the i-th, enforced on f
-unfoldable pub sentence : ℕ → Facility → Call → List ℕ
-sentence i f c = sentenceText i c (viewOf f c) (query f c) (viewOf (after f c) c) (refusalsOf (after f c) (ownerIn f c))
+abbrev pub sentence : ℕ → Facility → Call → List ℕ
+sentence i f c = sentenceText (told i f c)
 
 -- a refused set-up
 unfoldable pub setupSentence : ℕ → ℕ → List ℕ

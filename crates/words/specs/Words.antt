@@ -1,8 +1,9 @@
--- The words for kinds, answers, requests and levels, and what a number says.
+-- The words for kinds, answers, requests, flags and levels, and what a number says.
 use Prim.Native.Nat.{ℕ, zero, suc}
 use mathlib.Core.Bool.{cond}
 use mathlib.Core.List.{List, [], _∷_}
 use lib.Dec.{eqb}
+use Rattle.rules.specs.FileFlags.{readOnly, noExecute, noDelete, searchOnly, addInherited}
 use Rattle.rules.specs.Lines.{decimal}
 use Rattle.rules.specs.Text.{ascii}
 
@@ -43,7 +44,15 @@ requestWords =
 unfoldable pub requestWord : ℕ → List ℕ
 requestWord n = wordIn noRequest requestWords n
 
--- what a number says: 0, the refusals of a call, 1 to 13, and those of a set-up, 14 to 17
+-- the word of a flag, which is a bit
+unfoldable pub flagWord : ℕ → List ℕ
+flagWord m =
+    cond (eqb m readOnly) (ascii "read-only")
+    (cond (eqb m noExecute) (ascii "no-execute")
+    (cond (eqb m noDelete) (ascii "no-delete")
+    (cond (eqb m searchOnly) (ascii "search-only") (cond (eqb m addInherited) (ascii "add-inherited") (ascii "no flag")))))
+
+-- what a number says: 0, the refusals of a call, 1 to 13, and those of a set-up, 14 to 19
 abbrev pub noNumber : List ℕ
 noNumber = ascii "no number"
 
@@ -52,7 +61,8 @@ numberWords =
     ascii "accepted" ∷ ascii "no such request" ∷ ascii "no such process number" ∷ ascii "process does not run" ∷ ascii "process number is not free"
     ∷ ascii "no such user" ∷ ascii "object is not live" ∷ ascii "object's kind lacks the request" ∷ ascii "no such kind"
     ∷ ascii "object is not open in that mode" ∷ ascii "128 objects are entered" ∷ ascii "no such level" ∷ ascii "not granted" ∷ ascii "undefined"
-    ∷ ascii "length is not allowed" ∷ ascii "kind does not fit the place" ∷ ascii "too many users or objects" ∷ ascii "a byte is not allowed" ∷ []
+    ∷ ascii "length is not allowed" ∷ ascii "kind does not fit the place" ∷ ascii "too many users or objects" ∷ ascii "a byte is not allowed"
+    ∷ ascii "buffer is too short" ∷ ascii "parent is no earlier directory" ∷ []
 
 unfoldable pub numberWord : ℕ → List ℕ
 numberWord n = wordIn noNumber numberWords n

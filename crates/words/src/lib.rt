@@ -9,10 +9,11 @@ ghost use Rattle.rules.specs.Calls.{after};
 ghost use Rattle.rules.specs.Requests.{actionOf};
 ghost use Rattle.text.specs.Stored.{Stored};
 ghost use Rattle.words.specs.Patterns.{filled, said, signs};
-ghost use Rattle.words.specs.Sentences.{beforeText, countText, createText, objectText, outcomeText, processText, sentence, sentenceText, setupSentence};
-ghost use Rattle.words.specs.Sentences.{targetText};
+ghost use Rattle.words.specs.Sentences.{beforeText, countText, createText, flagText, flagsText, objectText, outcomeText, processText};
+ghost use Rattle.words.specs.Sentences.{reasonIn, reasonText, sentence, sentenceText, setupSentence, targetText};
 ghost use Rattle.words.specs.Tables.{sizeIn, wordAt};
-ghost use Rattle.words.specs.Words.{answerWord, kindWord, levelWord, numberWord, requestWord};
+ghost use Rattle.words.specs.Words.{answerWord, flagWord, kindWord, levelWord, numberWord, requestWord};
+use answers::Answer;
 use answers::Outcome;
 use rules::Action;
 use rules::View;
@@ -21,6 +22,23 @@ use state::Facility;
 
 // How many bytes a buffer for lines has. An array and not a slice: a function that hands it on is then checked in two thirds of the time.
 pub const BUFFER: usize = 65536;
+
+// The first flag that forbids a request, and the object whose own flag it is.
+struct Reason {
+    flag: u8,
+    source: u8,
+}
+
+// What is told of a call: what it looks at before and after it, and the counter of the caller's owner after it.
+struct Told {
+    index: u64,
+    call: Call,
+    before: View,
+    reason: Reason,
+    outcome: Outcome,
+    later: View,
+    count: u32,
+}
 
 // How many bytes of a row are left without the blanks behind them.
 fn size(row: &[u8]) -> usize
@@ -111,6 +129,20 @@ fn put_request(out: &mut [u8; BUFFER], place: usize, request: u8) -> usize
     put_word(out, place, words, 23, 22, request)
 }
 
+// The word for a flag.
+fn put_flag_word(out: &mut [u8; BUFFER], place: usize, flag: u8) -> usize
+    ensures { λ r. ⌜ Stored (now (out .entry)) place (flagWord flag) (now (out .exit)) r ⌝ }
+{
+    match flag {
+        flags::READ_ONLY => text::put_text(out, place, b"read-only"),
+        flags::NO_EXECUTE => text::put_text(out, place, b"no-execute"),
+        flags::NO_DELETE => text::put_text(out, place, b"no-delete"),
+        flags::SEARCH_ONLY => text::put_text(out, place, b"search-only"),
+        flags::ADD_INHERITED => text::put_text(out, place, b"add-inherited"),
+        _ => text::put_text(out, place, b"no flag"),
+    }
+}
+
 // What a number says.
 fn put_number(out: &mut [u8; BUFFER], place: usize, number: u8) -> usize
     ensures { λ r. ⌜ Stored (now (out .entry)) place (numberWord number) (now (out .exit)) r ⌝ }
@@ -134,8 +166,10 @@ fn put_number(out: &mut [u8; BUFFER], place: usize, number: u8) -> usize
         kind does not fit the place    \
         too many users or objects      \
         a byte is not allowed          \
+        buffer is too short            \
+        parent is no earlier directory \
         no number                      ";
-    put_word(out, place, words, 31, 18, number)
+    put_word(out, place, words, 31, 20, number)
 }
 
 // An object's level, or that it is unset.
@@ -158,6 +192,7 @@ fn put_said(out: &mut [u8; BUFFER], place: usize, x: u8, n: u8) -> usize
         b'%' => put_kind(out, place, n),
         b'&' => put_request(out, place, n),
         b'\'' => put_answer(out, place, n),
+        b'"' => put_flag_word(out, place, n),
         b'!' => put_number(out, place, n),
         _ => text::put_text(out, place, &[x]),
     }
@@ -167,10 +202,7 @@ fn put_said(out: &mut [u8; BUFFER], place: usize, x: u8, n: u8) -> usize
 fn signs(x: u8) -> usize
     ensures { λ r. ⌜ r ≡ signs x ⌝ }
 {
-    if x == b'!' {
-        return 1;
-    }
-    if x > 34 {
+    if x > 32 {
         if x < 40 {
             return 1;
         }
@@ -224,20 +256,43 @@ fn put_process(out: &mut [u8; BUFFER], place: usize, v: View) -> usize
     text::put_text(out, place, b"not running")
 }
 
-// The object: its number, and its kind and level where it is live.
+// A flag where it is among v.
+fn put_flag(out: &mut [u8; BUFFER], place: usize, flag: u8, v: u8) -> usize
+    ensures { λ x. ⌜ Stored (now (out .entry)) place (flagText flag v) (now (out .exit)) x ⌝ }
+{
+    if flags::has(flag, v) {
+        return put_one(out, place, b", \"", flag);
+    }
+    text::put_text(out, place, b"")
+}
+
+// The flags among v.
+fn put_flags(out: &mut [u8; BUFFER], place: usize, v: u8) -> usize
+    ensures { λ x. ⌜ Stored (now (out .entry)) place (flagsText v) (now (out .exit)) x ⌝ }
+{
+    let mut p = put_flag(out, place, flags::READ_ONLY, v);
+    p = put_flag(out, p, flags::NO_EXECUTE, v);
+    p = put_flag(out, p, flags::NO_DELETE, v);
+    p = put_flag(out, p, flags::SEARCH_ONLY, v);
+    put_flag(out, p, flags::ADD_INHERITED, v)
+}
+
+// The object: its number, and its kind, its level and the flags that FF sees where it is live.
 fn put_object(out: &mut [u8; BUFFER], place: usize, c: Call, v: View) -> usize
-    ensures { λ x. ⌜ Stored (now (out .entry)) place (objectText (c .target) (v .target .object)) (now (out .exit)) x ⌝ }
+    ensures { λ x. ⌜ Stored (now (out .entry)) place (objectText (c .target) (v .target)) (now (out .exit)) x ⌝ }
 {
     if v.target.object.live == 1 {
         let numbers = [c.target, v.target.object.kind, v.target.object.label.level];
-        return put_filled(out, place, b" object # (%, level $)", &numbers);
+        let mut p = put_filled(out, place, b" object # (%, level $", &numbers);
+        p = put_flags(out, p, v.target.flags);
+        return text::put_text(out, p, b")");
     }
     put_one(out, place, b" object # (not live)", c.target)
 }
 
 // What a create makes, and in which directory.
 fn put_create(out: &mut [u8; BUFFER], place: usize, c: Call, v: View) -> usize
-    ensures { λ x. ⌜ Stored (now (out .entry)) place (createText c (v .target .object)) (now (out .exit)) x ⌝ }
+    ensures { λ x. ⌜ Stored (now (out .entry)) place (createText c (v .target)) (now (out .exit)) x ⌝ }
 {
     if requests::in_directory(c.extra) {
         let p = put_one(out, place, b" % in", c.extra);
@@ -248,7 +303,7 @@ fn put_create(out: &mut [u8; BUFFER], place: usize, c: Call, v: View) -> usize
 
 // What the request is about.
 fn put_target(out: &mut [u8; BUFFER], place: usize, c: Call, v: View) -> usize
-    ensures { λ x. ⌜ Stored (now (out .entry)) place (targetText (actionOf (c .request)) c (v .target .object)) (now (out .exit)) x ⌝ }
+    ensures { λ x. ⌜ Stored (now (out .entry)) place (targetText (actionOf (c .request)) c (v .target)) (now (out .exit)) x ⌝ }
 {
     let process = b" process #";
     let k = requests::action_of(c.request);
@@ -274,23 +329,32 @@ fn put_before(out: &mut [u8; BUFFER], place: usize, index: u64, c: Call, v: View
     put_one(out, p, b"): &", c.request)
 }
 
+// The flag by which FF does not grant, and the object that it comes from.
+fn put_reason(out: &mut [u8; BUFFER], place: usize, ff: Answer, r: Reason) -> usize
+    ensures { λ x. ⌜ Stored (now (out .entry)) place (reasonText ff r) (now (out .exit)) x ⌝ }
+{
+    if ff.is_not_granted() {
+        return put_filled(out, place, b" by \" of object #", &[r.flag, r.source]);
+    }
+    text::put_text(out, place, b"")
+}
+
 // What the modules answer, and the number with what it says.
-fn put_outcome(out: &mut [u8; BUFFER], place: usize, o: Outcome) -> usize
-    ensures { λ x. ⌜ Stored (now (out .entry)) place (outcomeText o) (now (out .exit)) x ⌝ }
+fn put_outcome(out: &mut [u8; BUFFER], place: usize, o: Outcome, r: Reason) -> usize
+    ensures { λ x. ⌜ Stored (now (out .entry)) place (outcomeText o r) (now (out .exit)) x ⌝ }
 {
     let n = o.number();
     let a = o.answers();
     let mac = a.mac;
     let fc = a.fc;
     let sim = a.sim;
+    let ff = a.ff;
     let combined = a.combined;
-    let numbers = [mac.code(), fc.code(), sim.code(), combined.code(), n, n];
-    put_filled(
-        out,
-        place,
-        b": MAC ', FC ', SIM ', combined ': # !; then ",
-        &numbers,
-    )
+    let each = [mac.code(), fc.code(), sim.code(), ff.code()];
+    let all = [combined.code(), n, n];
+    let mut p = put_filled(out, place, b": MAC ', FC ', SIM ', FF '", &each);
+    p = put_reason(out, p, ff, r);
+    put_filled(out, p, b", combined ': # !; then ", &all)
 }
 
 // After a denial, how many refusals of the caller's owner are counted.
@@ -304,25 +368,27 @@ fn put_count(out: &mut [u8; BUFFER], place: usize, o: Outcome, v: View, n: u32) 
     text::put_text(out, place, b"")
 }
 
-// The line of a call by what it looked at, its outcome, what it would look at after it, and the counter of the caller's owner.
-fn put_sentence(
-    out: &mut [u8; BUFFER],
-    place: usize,
-    index: u64,
-    c: Call,
-    v: View,
-    o: Outcome,
-    w: View,
-    n: u32,
-) -> usize
-    ensures { λ x. ⌜ Stored (now (out .entry)) place (sentenceText index c v o w n) (now (out .exit)) x ⌝ }
+// The line of a call.
+fn put_sentence(out: &mut [u8; BUFFER], place: usize, t: Told) -> usize
+    ensures { λ x. ⌜ Stored (now (out .entry)) place (sentenceText t) (now (out .exit)) x ⌝ }
 {
-    let mut p = put_before(out, place, index, c, v);
-    p = put_target(out, p, c, v);
-    p = put_outcome(out, p, o);
-    p = put_process(out, p, w);
-    p = put_count(out, p, o, v, n);
+    let o = t.outcome;
+    let mut p = put_before(out, place, t.index, t.call, t.before);
+    p = put_target(out, p, t.call, t.before);
+    p = put_outcome(out, p, o, t.reason);
+    p = put_process(out, p, t.later);
+    p = put_count(out, p, o, t.before, t.count);
     text::put_text(out, p, b"\n")
+}
+
+// Why FF does not grant a call, which looks at v.
+fn reason_in(f: Facility, v: View, c: Call) -> Reason
+    ensures { λ r. ⌜ r ≡ reasonIn f v c ⌝ }
+{
+    let k = modules::class_in(v, c);
+    let flag = flags::forbidding(v.target.flags, c.request, k, v.target.object.kind);
+    let source = flags::source_at(&f.lives, &f.flags, &f.parents, c.target, flag);
+    Reason { flag, source }
 }
 
 // Enforces a call, stores its line, and answers the facility after it. The place is moved behind the line.
@@ -331,13 +397,23 @@ pub fn tell(f: Facility, index: u64, c: Call, out: &mut [u8; BUFFER], place: &mu
     ensures { λ r. ⌜ Stored (now (out .entry)) (now (place .entry)) (sentence index f c) (now (out .exit)) (now (place .exit)) ⌝ }
     ensures { λ r. ⌜ Counts (now (place .exit)) (now (out .exit)) ⌝ }
 {
-    let v = calls::view_of(f, c);
+    let before = calls::view_of(f, c);
+    let reason = reason_in(f, before, c);
     let enforced = calls::enforce(f, c);
     let facility = enforced.facility;
     let outcome = enforced.outcome;
-    let w = calls::view_of(facility, c);
-    let n = labels::word_at(&facility.refusals, v.caller.owner as usize);
-    *place = put_sentence(out, *place, index, c, v, outcome, w, n);
+    let later = calls::view_of(facility, c);
+    let count = labels::word_at(&facility.refusals, before.caller.owner as usize);
+    let t = Told {
+        index,
+        call: c,
+        before,
+        reason,
+        outcome,
+        later,
+        count,
+    };
+    *place = put_sentence(out, *place, t);
     facility
 }
 

@@ -5,14 +5,17 @@ use Prim.Native.Nat.{ℕ}
 use mathlib.Core.Path.{_∙_, ap}
 use borrow.Author.Needs.{needs}
 use Rattle.state.specs.declared.Process.{Process}
-use Rattle.labels.specs.Decisions.{at}
-use Rattle.state.specs.State.{switchesOf, userOf, opensOf}
+use mathlib.Core.Bool.{cond}
+use Rattle.labels.specs.Decisions.{at, on}
+use Rattle.state.specs.State.{objectsIn, switchesOf, userOf, opensOf}
+use Rattle.flags.specs.Laws.{effective-lists}
 
 returns : tie.Need-returns
 unfolding opensOf
 returns c =
-    let object = c .before .before .before .before in
-    let owner = object .before .before .before .before .before .before .before .before .before .before .before .before in
+    let opens = c .before .before .before .before .before .before .before .before in
+    let object = opens .before .before .before .before in
+    let owner = object .before .before .before .before .before .before .before .before .before .before .before .before .before .before .before .before in
     let receiver = owner .before .before .before .before .before .before .before .before .before in
     let caller = receiver .before .before .before .before .before .before .before .before .before .before .before .before .before .before in
     let marks = caller .before .before .before .before .before .before .before .before .before .before .before .before .before .before .before .before in
@@ -26,7 +29,8 @@ returns c =
       target = record {
         receiver = receiver .process-at2 .ensures i;
         object = object .object-at .ensures i;
-        opens = (c .at .ensures ∙ ap (λ (n : ℕ). at (f .opens) n) (marks .mark-place .ensures)) i;
+        opens = (opens .at .ensures ∙ ap (λ (n : ℕ). at (f .opens) n) (marks .mark-place .ensures)) i;
+        flags = (c .seen-at .ensures ∙ ap (λ (n : ℕ). cond (on (f .ff)) n 0) (effective-lists (objectsIn f) _)) i;
       };
     }
 
@@ -34,4 +38,4 @@ pub view-of-spec : {M : Type 1} → statement M
 view-of-spec =
     tie.close
     (tie.spec (λ c κs. search needs) (λ c. search needs) (λ c. search needs) (λ c. search needs) (λ c κs. search needs) (λ c κs. search needs)
-    (λ c. search needs) (λ c κs. search needs) (λ c κs. search needs) (λ c κs. search needs) returns)
+    (λ c. search needs) (λ c κs. search needs) (λ c κs. search needs) (λ c κs. search needs) (λ c κs. search needs) returns)

@@ -12,18 +12,19 @@ returns c =
     let c4 = c3 .before in
     let c5 = c4 .before in
     let c6 = c5 .before in
-    let a = c6 .answers .ensures in
+    let a = c6 .before .answers .ensures in
     λ i. record {
-      number = c5 .number .ensures i;
-      mac = (c4 .code .ensures ∙ ap (λ (x : Answers). code (x .mac)) a) i;
-      fc = (c3 .code2 .ensures ∙ ap (λ (x : Answers). code (x .fc)) a) i;
-      sim = (c .before .before .code3 .ensures ∙ ap (λ (x : Answers). code (x .sim)) a) i;
-      combined = (c .before .code4 .ensures ∙ ap (λ (x : Answers). code (x .combined)) a) i;
-      object = c .object .ensures i;
+      number = c6 .number .ensures i;
+      mac = (c5 .code .ensures ∙ ap (λ (x : Answers). code (x .mac)) a) i;
+      fc = (c4 .code2 .ensures ∙ ap (λ (x : Answers). code (x .fc)) a) i;
+      sim = (c3 .code3 .ensures ∙ ap (λ (x : Answers). code (x .sim)) a) i;
+      combined = (c .before .before .code4 .ensures ∙ ap (λ (x : Answers). code (x .combined)) a) i;
+      object = c .before .object .ensures i;
+      ff = (c .code5 .ensures ∙ ap (λ (x : Answers). code (x .ff)) a) i;
     }
 
 pub outcome-numbers-spec : {M : Type 1} → statement M
 outcome-numbers-spec =
     tie.close
     (tie.spec (λ c κs. search needs) (λ c κs. search needs) (λ c κs. search needs) (λ c κs. search needs) (λ c κs. search needs)
-    (λ c κs. search needs) (λ c κs. search needs) returns)
+    (λ c κs. search needs) (λ c κs. search needs) (λ c κs. search needs) returns)

@@ -10,16 +10,19 @@ returns : tie.Need-returns
 unfolding facilityAt objectIn
 returns c =
     let c3 = c .before .before .before in
-    let c4 = c3 .before in
+    let c5 = c3 .before .before in
     λ j. record {
-      live = c4 .byte-in .ensures j;
-      kind = c3 .byte-in2 .ensures j;
-      label = c .before .before .label-in .ensures j;
-      category =
-          c .before .byte-in3 .ensures j;
-      datatype = c .byte-in4 .ensures j;
+      live = c5 .before .byte-in .ensures j;
+      kind = c5 .byte-in2 .ensures j;
+      label = c3 .before .label-in .ensures j;
+      category = c3 .byte-in3 .ensures j;
+      datatype = c .before .before .byte-in4 .ensures j;
+      flags = c .before .byte-in5 .ensures j;
+      parent = c .byte-in6 .ensures j;
     }
 
 pub object-in-spec : {M : Type 1} → statement M
 object-in-spec =
-    tie.close (tie.spec (λ c κs. search needs) (λ c κs. search needs) (λ c κs. search needs) (λ c κs. search needs) (λ c κs. search needs) returns)
+    tie.close
+    (tie.spec (λ c κs. search needs) (λ c κs. search needs) (λ c κs. search needs) (λ c κs. search needs) (λ c κs. search needs)
+    (λ c κs. search needs) (λ c κs. search needs) returns)

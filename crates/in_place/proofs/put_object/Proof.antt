@@ -1,14 +1,16 @@
 -- The bytes of an object are stored, one after the other.
 use mathlib.Core.Path.{refl}
 use borrow.Author.Needs.{needs}
-use Rattle.in_place.specs.Layout.{fieldOf, theLives, theKinds, theLevels, theCategories, theDatatypes}
+use Rattle.in_place.specs.Layout.{fieldOf, theLives, theKinds, theLevels, theCategories, theDatatypes, theFlags, theParents}
 use Rattle.in_place.proofs.Stores.{stored}
 use Rattle.in_place.proofs.put_object.Statement.{statement}
 use Rattle.in_place.proofs.put_object.Tie as tie
 
 returns : tie.Need-returns
 returns c =
-    let c5 = c .before .before in
+    let c7 = c .before .before in
+    let c6 = c7 .before .before .before .before in
+    let c5 = c6 .before .before .before .before in
     let c4 = c5 .before .before .before .before in
     let c3 = c4 .before .before .before .before in
     let c2 = c3 .before .before .before .before in
@@ -19,10 +21,12 @@ returns c =
     let f = stored _ _ _ theKinds (a .i) (o .kind) f (c2 .put-in2 .ensures) in
     let f = stored _ _ _ theLevels (a .i) (o .label .level) f (c3 .put-in3 .ensures) in
     let f = stored _ _ _ theCategories (a .i) (o .category) f (c4 .put-in4 .ensures) in
-    stored _ _ _ theDatatypes (a .i) (o .datatype) f (c5 .put-in5 .ensures)
+    let f = stored _ _ _ theDatatypes (a .i) (o .datatype) f (c5 .put-in5 .ensures) in
+    let f = stored _ _ _ theFlags (a .i) (o .flags) f (c6 .put-in6 .ensures) in
+    stored _ _ _ theParents (a .i) (o .parent) f (c7 .put-in7 .ensures)
 
 pub put-object-spec : {M : Type 1} → statement M
 put-object-spec =
     tie.close
     (tie.spec (λ c κs. search needs) (λ c κs. search needs) (λ c κs. search needs) (λ c κs. search needs) (λ c κs. search needs)
-    (λ c. search needs) returns)
+    (λ c κs. search needs) (λ c κs. search needs) (λ c. search needs) returns)

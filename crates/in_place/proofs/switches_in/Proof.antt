@@ -8,11 +8,12 @@ returns : tie.Need-returns
 unfolding facilityAt
 returns c =
     λ i. record {
-      mac = c .before .before .byte-in .ensures i;
-      fc = c .before .byte-in2 .ensures i;
-      sim = c .byte-in3 .ensures i;
+      mac = c .before .before .before .byte-in .ensures i;
+      fc = c .before .before .byte-in2 .ensures i;
+      sim = c .before .byte-in3 .ensures i;
+      ff = c .byte-in4 .ensures i;
     }
 
 pub switches-in-spec : {M : Type 1} → statement M
 switches-in-spec =
-    tie.close (tie.spec (λ c κs. search needs) (λ c κs. search needs) (λ c κs. search needs) returns)
+    tie.close (tie.spec (λ c κs. search needs) (λ c κs. search needs) (λ c κs. search needs) (λ c κs. search needs) returns)

@@ -6,8 +6,11 @@ use Rattle.rules.specs.Modules.{answers}
 
 returns : tie.Need-returns
 unfolding answers
-returns c = rw (c .of .ensures, c .before .sim-answer .ensures, c .before .before .fc-answer .ensures, c .before .before .before .mac-answer .ensures)
+returns c =
+    let c3 = c .before .before .before in
+    rw (c .of .ensures, c .before .ff-answer .ensures, c .before .before .sim-answer .ensures, c3 .fc-answer .ensures, c3 .before .mac-answer .ensures)
 
 pub answers-spec : {M : Type 1} → statement M
 answers-spec =
-    tie.close (tie.spec (λ c κs. search needs) (λ c κs. search needs) (λ c κs. search needs) (λ c κs. search needs) returns)
+    tie.close
+    (tie.spec (λ c κs. search needs) (λ c κs. search needs) (λ c κs. search needs) (λ c κs. search needs) (λ c κs. search needs) returns)

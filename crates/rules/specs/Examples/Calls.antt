@@ -14,13 +14,13 @@ use Rattle.rules.specs.Histories.{run, outcomes, trustedLogin, trustedLo
 use Rattle.rules.specs.Promises.{denialsOf, sumTo}
 use Rattle.rules.specs.Examples.SetupRecords.{filesOfLevel0}
 
--- a call's number, its object and its four answers
+-- a call's number, its object, the answers of MAC, FC and SIM, and the combined one
 abbrev returned : Outcome → List ℕ
 returned o = numberOf o ∷ objectNumberOf o ∷ codes (answersOf o)
 
--- four answers
+-- answers
 abbrev some : Answers
-some = record { mac = Granted; fc = NotGranted; sim = Undefined; combined = Granted }
+some = record { mac = Granted; fc = NotGranted; sim = Undefined; ff = NotGranted; combined = Granted }
 
 -- "Number 0 is an accepted call", 12 and 13 come with answers, 1 to 11 with none; only an accepted call has an object
 pub outcome-of-number :

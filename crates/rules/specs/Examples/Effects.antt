@@ -61,11 +61,11 @@ opens-and-close = refl
 
 -- MAC on, user 0 of clearance 9, files 0 and 1 of level 3; process 0, automatic off, has 0 open both ways and 1 for reading.
 abbrev file : Object
-file = record { live = 1; kind = 0; label = label 3; category = 0; datatype = 0 }
+file = record { live = 1; kind = 0; label = label 3; category = 0; datatype = 0; flags = 0; parent = 0 }
 
 abbrev one : Facility
 one =
-    opened (opened (putProcess (putObject (putObject (putUser (blank (record { mac = 1; fc = 0; sim = 0 }))
+    opened (opened (putProcess (putObject (putObject (putUser (blank (record { mac = 1; fc = 0; sim = 0; ff = 0 }))
     (record { clearance = label 9; role = 0; trusted = 0 })) file) file) 0
     (record { running = 1; owner = 0; current = label 3; readmark = label 2; writemark = label 7; automatic = 0 })) 0 0 3) 0 1 1
 

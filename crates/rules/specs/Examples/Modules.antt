@@ -41,10 +41,13 @@ table-4-7 = refl
 
 -- each module's answer is heard
 pub all-combined :
-    map (λ a. combineAll a NotCared NotCared) four ∷ map (λ a. combineAll NotCared a NotCared) four ∷ map (λ a. combineAll NotCared NotCared a) four
-    ∷ map (λ a. combineAll a Granted NotGranted) four ∷ map (λ a. combineAll NotGranted a Granted) four ∷ map (λ a. combineAll Granted NotGranted a) four
+    map (λ a. combineAll a NotCared NotCared NotCared) four ∷ map (λ a. combineAll NotCared a NotCared NotCared) four
+    ∷ map (λ a. combineAll NotCared NotCared a NotCared) four ∷ map (λ a. combineAll NotCared NotCared NotCared a) four
+    ∷ map (λ a. combineAll a Granted NotGranted NotCared) four ∷ map (λ a. combineAll NotGranted a Granted NotCared) four
+    ∷ map (λ a. combineAll Granted NotGranted a NotCared) four ∷ map (λ a. combineAll Granted NotCared NotGranted a) four
     ∷ []
-    ≡ four ∷ four ∷ four
+    ≡ four ∷ four ∷ four ∷ four
+    ∷ (NotGranted ∷ NotGranted ∷ NotGranted ∷ Undefined ∷ [])
     ∷ (NotGranted ∷ NotGranted ∷ NotGranted ∷ Undefined ∷ [])
     ∷ (NotGranted ∷ NotGranted ∷ NotGranted ∷ Undefined ∷ [])
     ∷ (NotGranted ∷ NotGranted ∷ NotGranted ∷ Undefined ∷ [])
@@ -65,7 +68,7 @@ process current readmark writemark automatic =
     }
 
 abbrev levelled : ℕ → Object
-levelled l = record { live = 1; kind = 0; label = label l; category = 0; datatype = 0 }
+levelled l = record { live = 1; kind = 0; label = label l; category = 0; datatype = 0; flags = 0; parent = 0 }
 
 abbrev owner : ℕ → ℕ → User
 owner clearance trusted = record { clearance = label clearance; role = 0; trusted = trusted }
@@ -181,7 +184,8 @@ moves = refl
 abbrev byCategory : ℕ → List Answer
 byCategory role =
     map
-    (λ g. fcRule (record { live = 1; kind = 0; label = label 0; category = g; datatype = 1 }) (record { clearance = label 0; role = role; trusted = 0 }))
+    (λ g. fcRule (record { live = 1; kind = 0; label = label 0; category = g; datatype = 1; flags = 0; parent = 0 })
+    (record { clearance = label 0; role = role; trusted = 0 }))
     (0 ∷ 1 ∷ 2 ∷ 255 ∷ [])
 
 -- "unset category undefined; granted if the category is general or matches the role by number; else not granted"
@@ -198,7 +202,7 @@ fc-rule = refl
 abbrev byRole : ℕ → Class → ℕ → List Answer
 byRole request k datatype =
     map
-    (λ role. simRule request k (record { live = 1; kind = 0; label = label 0; category = 1; datatype = datatype })
+    (λ role. simRule request k (record { live = 1; kind = 0; label = label 0; category = 1; datatype = datatype; flags = 0; parent = 0 })
     (record { clearance = label 0; role = role; trusted = 1 }))
     (0 ∷ 1 ∷ 2 ∷ [])
 

@@ -33,13 +33,13 @@ first r = setupNumber ((readSetup r) .outcome)
 abbrev second : List ℕ → ℕ
 second r = setupNumber ((readSetup (switches 0 0 0 ++ r)) .outcome)
 
--- "bytes 1 to 3 MAC, FC, SIM, each 0 or 1", "all other bytes are 0; no other field may be unset"
+-- "bytes 1 to 3 MAC, FC, SIM, each 0 or 1", "a fourth switch is byte 4", "all other bytes are 0; no other field may be unset"
 pub switches-bytes :
     map first
-    (bytes 3 0 0 0 0 0 0 0 ∷ bytes 3 1 1 1 0 0 0 0 ∷ bytes 3 2 0 0 0 0 0 0 ∷ bytes 3 0 2 0 0 0 0 0 ∷ bytes 3 0 0 2 0 0 0 0
+    (bytes 3 0 0 0 0 0 0 0 ∷ bytes 3 1 1 1 1 0 0 0 ∷ bytes 3 2 0 0 0 0 0 0 ∷ bytes 3 0 2 0 0 0 0 0 ∷ bytes 3 0 0 2 0 0 0 0
     ∷ bytes 3 255 0 0 0 0 0 0 ∷ bytes 3 0 255 0 0 0 0 0 ∷ bytes 3 0 0 255 0 0 0 0
-    ∷ bytes 3 0 0 0 1 0 0 0 ∷ bytes 3 0 0 0 0 1 0 0 ∷ bytes 3 0 0 0 0 0 1 0 ∷ bytes 3 0 0 0 0 0 0 1 ∷ [])
-    ≡ 0 ∷ 0 ∷ replicate 10 17
+    ∷ bytes 3 0 0 0 2 0 0 0 ∷ bytes 3 0 0 0 255 0 0 0 ∷ bytes 3 0 0 0 0 1 0 0 ∷ bytes 3 0 0 0 0 0 1 0 ∷ bytes 3 0 0 0 0 0 0 1 ∷ [])
+    ≡ 0 ∷ 0 ∷ replicate 11 17
 unfolding everything
 switches-bytes = refl
 
@@ -53,14 +53,16 @@ pub user-bytes :
 unfolding everything
 user-bytes = refl
 
--- "byte 1 kind 0..3, byte 2 level 0..15 or 255 unset, byte 3 category 0, 1, 2, 255 unset, byte 4 data type 0, 1"
+-- "byte 1 kind 0..3, byte 2 level 0..15 or 255 unset, byte 3 category 0, 1, 2, 255 unset, byte 4 data type 0, 1"; "byte 5 has flags, other
+-- bits must be 0; byte 6 is the parent directory's number plus 1, or 0"
 pub object-bytes :
     map second
-    (bytes 2 0 0 0 0 0 0 0 ∷ bytes 2 3 15 2 1 0 0 0 ∷ bytes 2 0 255 0 0 0 0 0 ∷ bytes 2 0 0 255 0 0 0 0
+    (bytes 2 0 0 0 0 0 0 0 ∷ bytes 2 3 15 2 1 143 0 0 ∷ bytes 2 0 255 0 0 0 0 0 ∷ bytes 2 0 0 255 0 0 0 0
     ∷ bytes 2 4 0 0 0 0 0 0 ∷ bytes 2 255 0 0 0 0 0 0 ∷ bytes 2 0 16 0 0 0 0 0 ∷ bytes 2 0 254 0 0 0 0 0
     ∷ bytes 2 0 0 3 0 0 0 0 ∷ bytes 2 0 0 254 0 0 0 0 ∷ bytes 2 0 0 0 2 0 0 0 ∷ bytes 2 0 0 0 255 0 0 0
-    ∷ bytes 2 0 0 0 0 1 0 0 ∷ bytes 2 0 0 0 0 0 1 0 ∷ bytes 2 0 0 0 0 0 0 1 ∷ [])
-    ≡ 0 ∷ 0 ∷ 0 ∷ 0 ∷ replicate 11 17
+    ∷ bytes 2 0 0 0 0 16 0 0 ∷ bytes 2 0 0 0 0 32 0 0 ∷ bytes 2 0 0 0 0 64 0 0 ∷ bytes 2 0 0 0 0 255 0 0 ∷ bytes 2 0 0 0 0 256 0 0
+    ∷ bytes 2 0 0 0 0 0 0 1 ∷ bytes 2 0 0 0 0 0 1 0 ∷ bytes 2 1 0 0 0 0 1 0 ∷ bytes 2 0 0 0 0 0 255 0 ∷ [])
+    ≡ 0 ∷ 0 ∷ 0 ∷ 0 ∷ replicate 14 17 ++ replicate 3 19
 unfolding everything
 object-bytes = refl
 

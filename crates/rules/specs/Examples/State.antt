@@ -37,18 +37,18 @@ abbrev arrays : Facility → List (List ℕ)
 arrays f =
     f .clearances ∷ f .roles ∷ f .trusts
     ∷ f .lives ∷ f .kinds ∷ f .levels ∷ f .categories ∷ f .datatypes
-    ∷ f .runnings ∷ f .owners ∷ f .currents ∷ f .readmarks ∷ f .writemarks ∷ f .automatics ∷ []
+    ∷ f .runnings ∷ f .owners ∷ f .currents ∷ f .readmarks ∷ f .writemarks ∷ f .automatics ∷ f .flags ∷ f .parents ∷ []
 
 abbrev mixed : Switches
-mixed = record { mac = 1; fc = 2; sim = 3 }
+mixed = record { mac = 1; fc = 2; sim = 3; ff = 4 }
 
 pub blank-facility :
-    (counts (blank mixed) ∷ arrays (blank mixed)) ++ (blank mixed .opens ∷ [])
+    (counts (blank mixed) ∷ arrays (blank mixed)) ++ (blank mixed .opens ∷ (blank mixed .ff ∷ []) ∷ [])
     ≡ (1 ∷ 2 ∷ 3 ∷ 0 ∷ 0 ∷ 0 ∷ [])
     ∷ replicate 16 0 ∷ replicate 16 0 ∷ replicate 16 0
     ∷ replicate 128 0 ∷ replicate 128 0 ∷ replicate 128 0 ∷ replicate 128 0 ∷ replicate 128 0
-    ∷ replicate 32 0 ∷ replicate 32 0 ∷ replicate 32 0 ∷ replicate 32 0 ∷ replicate 32 0 ∷ replicate 32 0
-    ∷ replicate 4096 0 ∷ []
+    ∷ replicate 32 0 ∷ replicate 32 0 ∷ replicate 32 0 ∷ replicate 32 0 ∷ replicate 32 0 ∷ replicate 32 0 ∷ replicate 128 0 ∷ replicate 128 0
+    ∷ replicate 4096 0 ∷ (4 ∷ []) ∷ []
 unfolding everything
 blank-facility = refl
 
@@ -102,10 +102,10 @@ abbrev user1 : User
 user1 = record { clearance = label 3; role = 2; trusted = 1 }
 
 abbrev object0 : Object
-object0 = record { live = 1; kind = 0; label = label 4; category = 1; datatype = 1 }
+object0 = record { live = 1; kind = 0; label = label 4; category = 1; datatype = 1; flags = 131; parent = 0 }
 
 abbrev object1 : Object
-object1 = record { live = 1; kind = 2; label = label 255; category = 255; datatype = 0 }
+object1 = record { live = 1; kind = 2; label = label 255; category = 255; datatype = 0; flags = 12; parent = 1 }
 
 abbrev process0 : Process
 process0 = record { running = 1; owner = 1; current = label 5; readmark = label 2; writemark = label 9; automatic = 1 }
@@ -117,7 +117,7 @@ abbrev filled : Facility
 filled =
     putRefusals
     (opened (opened (putProcess (putProcess (putObject (putObject (putUser (putUser
-    (blank (record { mac = 1; fc = 0; sim = 1 })) user0) user1) object0) object1) 0 process0) 31 process31) 0 1 3) 31 0 2)
+    (blank (record { mac = 1; fc = 0; sim = 1; ff = 1 })) user0) user1) object0) object1) 0 process0) 31 process31) 0 1 3) 31 0 2)
     (7 ∷ replicate 15 0)
 
 -- all that stands in a facility of two users, two objects, and processes 0, 1 and 31, but for the opens; and the opens

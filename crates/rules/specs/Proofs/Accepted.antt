@@ -8,10 +8,10 @@ use mathlib.Core.List.{List, [], _∷_, _++_}
 use lib.Dec.{eqb}
 use lib.ListN.{length, length-append}
 use native.Mathlib.Omega.{arith}
-use borrow.Author.Tests.{eqb-true, le-leb, lt-ltb, eq-eqb}
+use borrow.Author.Tests.{eqb-true, le-leb, lt-ltb, eq-eqb, ne-eqb}
 use Rattle.labels.specs.Laws.Decisions.{and-i, clash, by-test}
 use Rattle.rules.specs.Types.{Facility}
-use Rattle.rules.specs.Kinds.{SetupRecord, kindOf, placeOf, countOf, fits, room, allowed, recordNumber}
+use Rattle.rules.specs.Kinds.{SetupRecord, kindOf, placeOf, countOf, fits, room, allowed, parentFits, recordNumber}
 use Rattle.rules.specs.Setup.{enterRecord, enterAll, isAccepted, together}
 use Rattle.rules.specs.Proofs.Records.{Accepts, accepts, accepted-number}
 use Rattle.rules.specs.Proofs.Past.{All, all-weaker, all-append, Under, under-weaker, under-none, count-same}
@@ -62,10 +62,28 @@ under-onto n past (x ∷ xs) h k = under-onto n (x ∷ past) xs (k .0, h) (k .1)
 abbrev pub AlwaysAllowed : SetupRecord → Type 0
 AlwaysAllowed r = (past : List SetupRecord) → allowed past r ≡ true
 
+-- and each parent among them is an earlier directory, by the records before it
+abbrev pub ParentsFit : List SetupRecord → List SetupRecord → Type 0
+ParentsFit past [] = Unit {0}
+ParentsFit past (r ∷ rs) = (parentFits past r ≡ true) × ParentsFit (r ∷ past) rs
+
+pub parents-append : (past xs ys : List SetupRecord) → ParentsFit past xs → ParentsFit (onto past xs) ys → ParentsFit past (xs ++ ys)
+parents-append past [] ys h k = k
+parents-append past (x ∷ xs) ys h k = (h .0, parents-append (x ∷ past) xs ys (h .1) k)
+
+-- records of other kinds have none
+pub no-parents : (k : ℕ) (xs past : List SetupRecord) → k ≢ 2 → All (λ r. r .kind ≡ k) xs → ParentsFit past xs
+unfolding parentFits
+no-parents k [] past d h = tt
+no-parents k (x ∷ xs) past d h =
+    let n : x .kind ≢ 2 = λ z. d (sym (h .0) ∙ z) in
+    (rw (ne-eqb (x .kind) 2 n) refl, no-parents k xs (x ∷ past) d (h .1))
+
 pub record Section (k : ℕ) (xs : List SetupRecord) : Type 0 where
   pub kinds : All (λ r. r .kind ≡ k) xs
   pub few : length xs ≤ (kindOf k) .most
   pub lawful : All AlwaysAllowed xs
+  pub parents : (past : List SetupRecord) → countOf k past ≡ 0 → ParentsFit past xs
 
 fits-later : (past : List SetupRecord) (r : SetupRecord) → 1 ≤ length past → 2 ≤ placeOf r → Under (suc (placeOf r)) past → fits past r ≡ true
 unfolding fits
@@ -75,10 +93,10 @@ fits-later (q ∷ past) r h p u =
     and-i _ _ (le-leb 2 (placeOf r) p) (le-leb (placeOf q) (placeOf r) (omega arith))
 
 section-goes : (k : ℕ) (xs past : List SetupRecord) → 1 ≤ length past → 2 ≤ (kindOf k) .place → Under (suc ((kindOf k) .place)) past
-    → All (λ r. r .kind ≡ k) xs → countOf k past + length xs ≤ (kindOf k) .most → All AlwaysAllowed xs → AllAccepted past xs
+    → All (λ r. r .kind ≡ k) xs → countOf k past + length xs ≤ (kindOf k) .most → All AlwaysAllowed xs → ParentsFit past xs → AllAccepted past xs
 unfolding room
-section-goes k [] past l p u ks c a = tt
-section-goes k (x ∷ xs) past l p u ks c a =
+section-goes k [] past l p u ks c a b = tt
+section-goes k (x ∷ xs) past l p u ks c a b =
     let e : x .kind ≡ k = ks .0 in
     let ez : placeOf x ≡ (kindOf k) .place = ap (λ (j : ℕ). (kindOf j) .place) e in
     let s = count-same k x past e in
@@ -86,8 +104,9 @@ section-goes k (x ∷ xs) past l p u ks c a =
       fits = fits-later past x l (omega arith) (rw ez u);
       room = rw e (lt-ltb (countOf k past) ((kindOf k) .most) (omega arith));
       allowed = (a .0) past;
+      parent = b .0;
     } in
-    (A, section-goes k xs (x ∷ past) (omega arith) p (omega arith, u) (ks .1) (omega arith) (a .1))
+    (A, section-goes k xs (x ∷ past) (omega arith) p (omega arith, u) (ks .1) (omega arith) (a .1) (b .1))
 
 -- a section goes after what has earlier places, and what has later places may follow
 section-follows : (k : ℕ) (xs past : List SetupRecord) → 1 ≤ length past → 2 ≤ (kindOf k) .place → Under ((kindOf k) .place) past → Section k xs
@@ -96,7 +115,7 @@ section-follows k xs past l p u S =
     let z = under-none k past u in
     let v = under-weaker ((kindOf k) .place) (suc ((kindOf k) .place)) past (omega arith) u in
     let place : (r : SetupRecord) → r .kind ≡ k → placeOf r ≡ (kindOf k) .place = λ r e. ap (λ (j : ℕ). (kindOf j) .place) e in (
-      section-goes k xs past l p v (S .kinds) (omega (arith, S .few)) (S .lawful),
+      section-goes k xs past l p v (S .kinds) (omega (arith, S .few)) (S .lawful) (S .parents past z),
       under-onto _ past xs v
           (all-weaker (λ r. r .kind ≡ k) (λ r. placeOf r < suc ((kindOf k) .place)) xs (λ r e. omega (arith, place r e)) (S .kinds)),
     )

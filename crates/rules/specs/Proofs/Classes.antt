@@ -38,6 +38,15 @@ pub class-create : (k : ℕ) → not (isAbsent (classOf 4 k)) ≡ true → alter
 unfolding classOf files directories channels controlData listOf classAmong _or_
 class-create k = there alters (classOf 4 k) (row (λ x. isAbsent x or alters x) 4 refl refl refl refl refl k)
 
+-- a directory alone has create
+pub create-directory : (k : ℕ) → not (isAbsent (classOf 4 k)) ≡ true → k ≡ 1
+unfolding classOf files directories channels controlData listOf classAmong
+create-directory k h =
+    by-eq k 1 (λ e. e) (λ n1.
+    by-eq k 0 (λ e. clash (rw e at h) refl) (λ n0.
+    by-eq k 2 (λ e. clash (rw e at h) refl) (λ n2.
+    by-eq k 3 (λ e. clash (rw e at h) refl) (λ n3. clash (rw (ne-eqb k 0 n0, ne-eqb k 1 n1, ne-eqb k 2 n2, ne-eqb k 3 n3) at h) refl))))
+
 pub request-create : (r : ℕ) → actionOf r ≡ Create → r ≡ 4
 unfolding actionOf
 request-create r e =

@@ -1,21 +1,23 @@
 -- What holds of the fresh facility of every set-up, accepted or refused, and what the records that were read tell of it.
-use Prim.Native.Nat.{ℕ, _+_, _<_}
+use Prim.Native.Nat.{ℕ, _+_, _-_, _≤_, _<_}
 use mathlib.Core.Path.{_≡_, refl, sym, _∙_, ap, subst⁻¹}
-use mathlib.Core.Bool.{true, false}
+use mathlib.Core.Logic.{_≢_}
+use mathlib.Core.Bool.{Bool, true, false}
 use mathlib.Core.List.{List, [], _∷_}
-use lib.Dec.{eqb}
+use lib.Dec.{eqb, ltb}
 use native.Mathlib.Omega.{arith}
-use borrow.Author.Tests.{ltb-true, eqb-true}
+use borrow.Author.Tests.{ltb-true, ltb-false, eqb-true, lt-ltb, le-ltb, eq-eqb, ne-eqb}
 use Rattle.rules.specs.Types.{Switches, User, Object, Facility}
-use Rattle.labels.specs.Decisions.{_and_, on}
-use Rattle.labels.specs.Laws.Decisions.{by-test, by-eq}
+use Rattle.labels.specs.Decisions.{_and_, _or_, on}
+use Rattle.labels.specs.Laws.Decisions.{and-l, and-r, or-cases, by-test, by-eq}
 use Rattle.state.specs.Laws.ReadBack.{object-new, object-old, add-user, add-object}
 use Rattle.state.specs.State.{mostUsers, switchesOf, allOff, refusalsOf, runs, live, opensOf, putUser, putObject, noProcess, blank}
 use Rattle.opens.specs.Opens.{mostObjects}
-use Rattle.rules.specs.Kinds.{SetupRecord, switchesKind, usersKind, objectsKind, kindOf, countOf, fits, room, allowedBy, recordNumber}
+use Rattle.rules.specs.Kinds.{SetupRecord, switchesKind, usersKind, objectsKind, kindOf, countOf, fits, room, allowedBy, directoryAmong}
+use Rattle.rules.specs.Kinds.{parentFits, recordNumber}
 use Rattle.rules.specs.Setup.{sized, switchesEntered, userEntered, objectEntered, enterRecord, enterAll, readSetup, switchesRecord, userRecord}
 use Rattle.rules.specs.Setup.{objectRecord}
-use Rattle.rules.specs.Proofs.Regular.{Regular, regular-user, regular-object, none-lawful}
+use Rattle.rules.specs.Proofs.Regular.{kindAt, ParentFit, Regular, regular-user, regular-object, none-lawful}
 use Rattle.rules.specs.Proofs.Sound.{at-zeros, sound-blank, blank-closed, blank-process}
 use Rattle.rules.specs.Proofs.Records.{kept, kept-record, allowed-as, Accepts, accepts, first-kind, by-kind}
 use Rattle.rules.specs.Proofs.Past.{count-same, count-other, later-place}
@@ -48,6 +50,7 @@ fresh-blank s h =
         switches = h;
         user = λ u b. absurd (omega (arith, blank-users s));
         object = λ t b. absurd (omega (arith, blank-entered s));
+        parent = λ t b. absurd (omega (arith, blank-entered s));
         process = λ p. rw (blank-process s p) none-lawful;
       };
       whole = λ t b. absurd (omega (arith, blank-entered s));
@@ -71,12 +74,12 @@ fresh-user f u F h a =
       refusals = F .refusals;
     }
 
-fresh-object : (f : Facility) (o : Object) → Fresh f → f .entered < mostObjects → allowedBy objectsKind (objectRecord o) ≡ true → on (o .live) ≡ true
-    → Fresh (putObject f o)
+fresh-object : (f : Facility) (o : Object) → Fresh f → f .entered < mostObjects → allowedBy objectsKind (objectRecord o) ≡ true
+    → ParentFit f (f .entered) (o .parent) → on (o .live) ≡ true → Fresh (putObject f o)
 unfolding putObject opensOf
-fresh-object f o F h a v =
+fresh-object f o F h a pf v =
     record {
-      regular = regular-object f o (F .regular) h a;
+      regular = regular-object f o (F .regular) h a pf;
       whole = λ t b.
           by-eq t (f .entered)
           (λ e. subst⁻¹ (λ (k : ℕ). live (putObject f o) k ≡ true) e (rw (object-new f o (F .regular .sound .shaped) h) v))
@@ -86,10 +89,15 @@ fresh-object f o F h a v =
       refusals = F .refusals;
     }
 
+-- whether object n is entered and is a directory
+abbrev pub isDirectory : Facility → ℕ → Bool
+isDirectory f n = ltb n (f .entered) and eqb (kindAt f n) 1
+
 -- What the records that were read tell of the facility.
 pub record Told (past : List SetupRecord) (f : Facility) : Type 0 where
   pub users : f .users ≡ countOf 1 past
   pub entered : f .entered ≡ countOf 2 past
+  pub directory : (n : ℕ) → directoryAmong n past ≡ isDirectory f n
 
 abbrev pub Read : List SetupRecord → Facility → Type 0
 Read past f = Fresh f × Told past f
@@ -106,6 +114,7 @@ pub record AsObject (f : Facility) (r : SetupRecord) : Type 0 where
   pub is : objectRecord (objectEntered r) ≡ r
   pub allowed : allowedBy objectsKind r ≡ true
   pub entered : enterRecord f r ≡ putObject f (objectEntered r)
+  pub parent : ParentFit f (f .entered) (r .six)
 
 module _ (past : List SetupRecord) (f : Facility) (r : SetupRecord) (T : Told past f) (A : Accepts past r) where
   pub as-user : r .kind ≡ 1 → AsUser f r
@@ -116,13 +125,34 @@ module _ (past : List SetupRecord) (f : Facility) (r : SetupRecord) (T : Told pa
       let a : allowedBy usersKind r ≡ true = allowed-as 1 past r e (A .allowed) in
       record { room = h; is = kept-record 1 r e a; allowed = a; entered = rw e (add-user f (userEntered r) h) }
 
+  parent-fit : r .kind ≡ 2 → ParentFit f (f .entered) (r .six)
+  unfolding parentFits
+  parent-fit e z =
+      let q : (eqb (r .six) 0 or directoryAmong (r .six - 1) past) ≡ true = rw (eq-eqb _ _ e) at (A .parent) in
+      or-cases _ _ q
+      (λ n. absurd (z (eqb-true _ _ n)))
+      (λ d. let k = sym (T .directory (r .six - 1)) ∙ d in (ltb-true _ _ (and-l _ _ k), eqb-true _ _ (and-r _ _ k)))
+
   pub as-object : r .kind ≡ 2 → AsObject f r
   unfolding kindOf room kept enterRecord
   as-object e =
       let b : countOf 2 past < mostObjects = ltb-true _ _ (rw e at (A .room)) in
       let h : f .entered < mostObjects = omega (arith, T .entered) in
       let a : allowedBy objectsKind r ≡ true = allowed-as 2 past r e (A .allowed) in
-      record { room = h; is = kept-record 2 r e a; allowed = a; entered = rw e (add-object f (objectEntered r) h) }
+      record { room = h; is = kept-record 2 r e a; allowed = a; entered = rw e (add-object f (objectEntered r) h); parent = parent-fit e }
+
+-- directories among the records, with one more: a record of another kind is none, one of an object tells of the next number
+among-other : (n : ℕ) (r : SetupRecord) (past : List SetupRecord) → r .kind ≢ 2 → directoryAmong n (r ∷ past) ≡ directoryAmong n past
+unfolding directoryAmong _and_
+among-other n r past d = rw (ne-eqb (r .kind) 2 d)
+
+pub among-new : (n : ℕ) (r : SetupRecord) (past : List SetupRecord) → r .kind ≡ 2 → countOf 2 past ≡ n → directoryAmong n (r ∷ past) ≡ eqb (r .one) 1
+unfolding directoryAmong _and_
+among-new n r past e c = rw (eq-eqb (r .kind) 2 e, eq-eqb (countOf 2 past) n c)
+
+pub among-old : (n : ℕ) (r : SetupRecord) (past : List SetupRecord) → countOf 2 past ≢ n → directoryAmong n (r ∷ past) ≡ directoryAmong n past
+unfolding directoryAmong _and_
+among-old n r past c = by-test (eqb (r .kind) 2) (λ e. rw (e, ne-eqb (countOf 2 past) n c)) (λ e. rw e)
 
 told-user : (past : List SetupRecord) (f : Facility) (r : SetupRecord) (u : User) → r .kind ≡ 1 → Told past f → Told (r ∷ past) (putUser f u)
 unfolding putUser
@@ -130,14 +160,34 @@ told-user past f r u e T =
     record {
       users = ap (λ (n : ℕ). n + 1) (T .users) ∙ sym (count-same 1 r past e);
       entered = T .entered ∙ sym (count-other 2 r past (λ z. absurd (omega arith)));
+      directory = λ n. among-other n r past (λ z. absurd (omega arith)) ∙ T .directory n;
     }
 
-told-object : (past : List SetupRecord) (f : Facility) (r : SetupRecord) (o : Object) → r .kind ≡ 2 → Told past f → Told (r ∷ past) (putObject f o)
+directory-told : (past : List SetupRecord) (f : Facility) (r : SetupRecord) → r .kind ≡ 2 → Fresh f → f .entered < mostObjects → Told past f
+    → (n : ℕ) → directoryAmong n (r ∷ past) ≡ (ltb n (f .entered + 1) and eqb (kindAt (putObject f (objectEntered r)) n) 1)
+unfolding _and_
+directory-told past f r e F h T n =
+    by-eq n (f .entered)
+    (λ z.
+    let k : kindAt (putObject f (objectEntered r)) n ≡ r .one
+    = ap (kindAt (putObject f (objectEntered r))) z ∙ ap (λ (x : Object). x .kind) (object-new f (objectEntered r) (F .regular .sound .shaped) h) in
+    among-new n r past e (sym (T .entered) ∙ sym z) ∙ rw (lt-ltb n (f .entered + 1) (omega arith), k))
+    (λ z.
+    let k : kindAt (putObject f (objectEntered r)) n ≡ kindAt f n = ap (λ (x : Object). x .kind) (object-old f (objectEntered r) n z) in
+    among-old n r past (λ c. z (sym c ∙ sym (T .entered))) ∙ T .directory n ∙ rw (k, more n (f .entered) z))
+  where
+    more : (n m : ℕ) → n ≢ m → ltb n (m + 1) ≡ ltb n m
+    more n m z = by-test (ltb n m) (λ a. let b : n < m = ltb-true n m a in lt-ltb n (m + 1) (omega arith) ∙ sym a)
+        (λ a. let b : m ≤ n = ltb-false n m a in le-ltb n (m + 1) (omega arith) ∙ sym a)
+
+told-object : (past : List SetupRecord) (f : Facility) (r : SetupRecord) → r .kind ≡ 2 → Fresh f → f .entered < mostObjects → Told past f
+    → Told (r ∷ past) (putObject f (objectEntered r))
 unfolding putObject
-told-object past f r o e T =
+told-object past f r e F h T =
     record {
       users = T .users ∙ sym (count-other 1 r past (λ z. absurd (omega arith)));
       entered = ap (λ (n : ℕ). n + 1) (T .entered) ∙ sym (count-same 2 r past e);
+      directory = directory-told past f r e F h T;
     }
 
 -- the switches record
@@ -147,6 +197,14 @@ unfolding enterRecord kindOf kept fits
 as-switches f r A =
     let e : r .kind ≡ 3 = first-kind (r .kind) (A .fits) in
     (rw e, kept-record 3 r e (allowed-as 3 [] r e (A .allowed)), e)
+
+blank-directory : (s : Switches) (n : ℕ) → isDirectory (blank s) n ≡ false
+unfolding blank _and_
+blank-directory s n = rw (le-ltb n 0 (omega arith))
+
+among-none : (n : ℕ) → directoryAmong n [] ≡ false
+unfolding directoryAmong
+among-none n = refl
 
 read-first : (f : Facility) (r : SetupRecord) → Accepts [] r → Read (r ∷ []) (enterRecord f r)
 unfolding kindOf countOf blank
@@ -158,6 +216,7 @@ read-first f r A =
       record {
         users = sym (count-other 1 r [] (λ z. absurd (omega arith)));
         entered = sym (count-other 2 r [] (λ z. absurd (omega arith)));
+        directory = λ n. among-other n r [] (λ z. absurd (omega arith)) ∙ among-none n ∙ sym (blank-directory (switchesEntered r) n);
       },
     )
 
@@ -173,13 +232,14 @@ read-record (q ∷ past) f r (F, T) A =
     (λ e.
     let O = as-object (q ∷ past) f r T A e in
     rw (O .entered) (
-      fresh-object f _ F (O .room) (subst⁻¹ (λ (x : SetupRecord). allowedBy objectsKind x ≡ true) (O .is) (O .allowed)) refl,
-      told-object (q ∷ past) f r _ e T,
+      fresh-object f _ F (O .room) (subst⁻¹ (λ (x : SetupRecord). allowedBy objectsKind x ≡ true) (O .is) (O .allowed)) (O .parent) refl,
+      told-object (q ∷ past) f r e F (O .room) T,
     ))
 
 pub read-none : Read [] (blank allOff)
 unfolding countOf
-read-none = (fresh-refused, record { users = blank-users allOff; entered = blank-entered allOff })
+read-none =
+    (fresh-refused, record { users = blank-users allOff; entered = blank-entered allOff; directory = λ n. among-none n ∙ sym (blank-directory allOff n) })
 
 fresh-all : (past : List SetupRecord) (f : Facility) (rs : List SetupRecord) → Read past f → Fresh ((enterAll past f rs) .facility)
 unfolding enterAll

@@ -10,7 +10,7 @@ use Rattle.rules.specs.Setup.{listed}
 use Rattle.rules.specs.Proofs.Past.{All, all-append}
 
 -- the same numbers with the same items
-listed-same : {A : Type 0} (n : ℕ) (t u : ℕ → Bool) (i j : ℕ → A)
+pub listed-same : {A : Type 0} (n : ℕ) (t u : ℕ → Bool) (i j : ℕ → A)
     → ((k : ℕ) → k < n → u k ≡ t k) → ((k : ℕ) → k < n → j k ≡ i k) → listed n u j ≡ listed n t i
 unfolding listed
 listed-same zero t u i j h g = refl

@@ -20,7 +20,7 @@ use Rattle.rules.specs.Effects.{effectFrom, effectBy}
 use Rattle.rules.specs.Calls.{ownerIn, accepted, afterRefusal, after}
 use Rattle.rules.specs.Requests.{Action, Login, Clone, SendSignal, SetLevel, Terminate, Create, OnObject, Unknown, Class, Absent, Reads, Writes, Both}
 use Rattle.rules.specs.Requests.{NoCondition, OpenChange, Keep, Add, Close, CloseAll, actionOf, actionCode, isLogin, isClone, inDirectory, openChange}
-use Rattle.rules.specs.Modules.{View, viewOf, classIn, macRule, macAnswer, fcAnswer, simAnswer, answers, moveBy, setLevel, moved, levelled}
+use Rattle.rules.specs.Modules.{View, viewOf, classIn, macRule, macAnswer, fcAnswer, simAnswer, ffAnswer, answers, moveBy, setLevel, moved, levelled}
 use Rattle.rules.specs.Questions.{runsOf, isRunning, numberBy, number}
 use Rattle.rules.specs.Proofs.Passed.{Passed, passed, accepted-zero}
 use Rattle.rules.specs.Proofs.Sound.{Sound}
@@ -213,9 +213,9 @@ uncared true x = refl
 uncared false x = refl
 
 login-granted : (v : View) (c : Call) → (isNotGranted (answers Login v c .combined) ≡ false) × (isUndefined (answers Login v c .combined) ≡ false)
-unfolding answers answersFrom macAnswer fcAnswer simAnswer macRule
+unfolding answers answersFrom macAnswer fcAnswer simAnswer ffAnswer macRule
 login-granted v c =
-    rw (uncared (on (v .switches .fc)) _, uncared (on (v .switches .sim)) _)
+    rw (uncared (on (v .switches .fc)) _, uncared (on (v .switches .sim)) _, uncared (on (v .switches .ff)) _)
     (by-test (on (v .switches .mac)) (λ m. rw m (refl, refl)) (λ m. rw m (refl, refl)))
 
 no-login : (v : View) (c : Call) → denies (numberBy Login v c) ≡ true → ⊥

@@ -1,20 +1,22 @@
 -- Records: an allowed one is the one that is written out for what it enters; what the questions tell of an accepted one; the kinds by cases.
 use Prim.Native.Nat.{ℕ, _≤_}
 use mathlib.Core.Path.{_≡_, refl, sym, _∙_, ap, subst}
-use mathlib.Core.Bool.{true, false, cond}
+use mathlib.Core.Bool.{Bool, true, false, not, cond}
 use mathlib.Core.List.{List}
 use lib.Dec.{leb, eqb}
 use native.Mathlib.Omega.{arith}
 use borrow.Author.Tests.{eqb-true, ne-eqb}
+use Rattle.labels.specs.Decisions.{_and_, ask}
 use Rattle.labels.specs.Laws.Decisions.{and-l, and-r, clash, by-eq, ask-yes, ask-later, ask-i}
-use Rattle.rules.specs.Kinds.{SetupRecord, Byte, Zero, Upto, OrUnset, Kind, noKind, kindOf, fits, room, byteAllowed, allowedBy, allowed}
-use Rattle.rules.specs.Kinds.{recordNumber}
+use Rattle.rules.specs.Kinds.{SetupRecord, Byte, Zero, Upto, OrUnset, Bits, Kind, noKind, kindOf, fits, room, byteAllowed, allowedBy, allowed}
+use Rattle.rules.specs.Kinds.{parentFits, recordNumber}
 
 -- what is kept of a byte, and of a record of kind k: a byte that must be 0 is written as 0, any other as it came
 keptByte : Byte → ℕ → ℕ
 keptByte Zero b = 0
 keptByte (Upto n) b = b
 keptByte (OrUnset n) b = b
+keptByte (Bits n) b = b
 
 unfoldable pub kept : ℕ → SetupRecord → SetupRecord
 unfolding keptByte
@@ -35,6 +37,7 @@ unfolding keptByte
 kept-byte Zero b h = sym (eqb-true b 0 h)
 kept-byte (Upto n) b h = refl
 kept-byte (OrUnset n) b h = refl
+kept-byte (Bits n) b h = refl
 
 -- THE LAW of all kinds: of an allowed record nothing is lost
 pub kept-record : (k : ℕ) (r : SetupRecord) → r .kind ≡ k → allowedBy (kindOf k) r ≡ true → kept k r ≡ r
@@ -66,17 +69,31 @@ pub record Accepts (past : List SetupRecord) (r : SetupRecord) : Type 0 where
   pub fits : fits past r ≡ true
   pub room : room past r ≡ true
   pub allowed : allowed past r ≡ true
+  pub parent : parentFits past r ≡ true
 
 pub accepts : (past : List SetupRecord) (r : SetupRecord) → recordNumber past r ≡ 0 → Accepts past r
 unfolding recordNumber
 accepts past r h =
     let h2 = ask-later _ _ _ h in
     let h3 = ask-later _ _ _ h2 in
-    record { fits = ask-yes _ _ _ h; room = ask-yes _ _ _ h2; allowed = ask-yes _ _ _ h3 }
+    record { fits = ask-yes _ _ _ h; room = ask-yes _ _ _ h2; allowed = ask-yes _ _ _ h3; parent = ask-yes _ _ _ (ask-later _ _ _ h3) }
 
 pub accepted-number : (past : List SetupRecord) (r : SetupRecord) → Accepts past r → recordNumber past r ≡ 0
 unfolding recordNumber
-accepted-number past r A = ask-i _ _ _ (A .fits) (ask-i _ _ _ (A .room) (ask-i _ _ _ (A .allowed) refl))
+accepted-number past r A = ask-i _ _ _ (A .fits) (ask-i _ _ _ (A .room) (ask-i _ _ _ (A .allowed) (ask-i _ _ _ (A .parent) refl)))
+
+-- 19 is asked last
+pub nineteen : (past : List SetupRecord) (r : SetupRecord)
+    → eqb (recordNumber past r) 19 ≡ (fits past r and room past r and allowed past r and not (parentFits past r))
+unfolding recordNumber ask _and_
+nineteen past r = four (fits past r) (room past r) (allowed past r) (parentFits past r)
+  where
+    four : (a b c d : Bool) → eqb (ask a 15 (ask b 16 (ask c 17 (ask d 19 0)))) 19 ≡ (a and b and c and not d)
+    four false b c d = refl
+    four true false c d = refl
+    four true true false d = refl
+    four true true true false = refl
+    four true true true true = refl
 
 -- The kinds by cases: the one place beside the table that lists them. The first record is 3, a later one any other kind of the table.
 pub by-any {ℓ} : {A : Type ℓ} (k : ℕ) → (k ≡ 3 → A) → (k ≡ 1 → A) → (k ≡ 2 → A) → (kindOf k ≡ noKind → A) → A

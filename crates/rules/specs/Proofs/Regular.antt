@@ -1,13 +1,14 @@
 -- What holds of every facility that a list of calls reaches, whatever its switches: each byte is one that a set-up allows, and the labels of every
 -- process are lawful.
-use Prim.Native.Nat.{ℕ, _≤_, _<_}
-use mathlib.Core.Path.{_≡_, refl, subst⁻¹, _∙_}
-use mathlib.Core.Bool.{true}
+use Prim.Native.Nat.{ℕ, _+_, _-_, _≤_, _<_}
+use mathlib.Core.Path.{_≡_, refl, ap, subst⁻¹, _∙_}
+use mathlib.Core.Logic.{_≢_}
+use mathlib.Core.Bool.{true, false}
 use mathlib.Core.List.{List, [], _∷_}
-use lib.Dec.{leb}
+use lib.Dec.{leb, ltb}
 use lib.ListN.{length, length-set}
 use native.Mathlib.Omega.{arith}
-use borrow.Author.Tests.{ltb-true, leb-true}
+use borrow.Author.Tests.{ltb-true, leb-true, le-leb}
 use Rattle.rules.specs.Types.{Call, Process, User, Object, Facility}
 use Rattle.labels.specs.Decisions.{_and_, _or_, at, on}
 use Rattle.labels.specs.Laws.Decisions.{and-l, and-r, or-cases, clash, by-test, by-eq}
@@ -20,7 +21,7 @@ use Rattle.opens.specs.Opens.{mostProcesses, mostObjects, mostOpens}
 use Rattle.labels.specs.Labels.{Label, lawful, given}
 use Rattle.labels.specs.Laws.Labels.{⊑-refl, bottom-least, join-lawful, meet-lawful, level-lawful, lawful-level, unset-level}
 use Rattle.answers.specs.Answers.{passes}
-use Rattle.rules.specs.Effects.{created, effectFrom, effectBy}
+use Rattle.rules.specs.Effects.{firstFlags, firstParent, created, effectFrom, effectBy}
 use Rattle.rules.specs.Calls.{ownerIn, accepted, afterRefusal, after}
 use Rattle.rules.specs.Histories.{run}
 use Rattle.rules.specs.Requests.{Action, Login, Clone, SendSignal, SetLevel, Terminate, Create, OnObject, Unknown, Class, Absent, Reads, Writes}
@@ -30,6 +31,7 @@ use Rattle.rules.specs.Setup.{switchesRecord, userRecord, objectRecord}
 use Rattle.rules.specs.Modules.{View, viewOf, classIn, macObject, macRule, moveBy, setLevel, moved, levelled}
 use Rattle.rules.specs.Questions.{number}
 use Rattle.rules.specs.Proofs.Moves.{object-granted}
+use Rattle.rules.specs.Proofs.Classes.{request-create, create-directory}
 use Rattle.rules.specs.Proofs.Invariant.{each}
 use Rattle.rules.specs.Proofs.Sound.{Sound, sound-process, sound-opens, sound-counted, sound-user, sound-object, sound-drop}
 use Rattle.rules.specs.Proofs.Passed.{Passed, passed, mac-passed, accepted-zero}
@@ -39,11 +41,19 @@ pub record LawfulProcess (r : Process) : Type 0 where
   pub readmark : lawful (r .readmark) ≡ true
   pub writemark : lawful (r .writemark) ≡ true
 
+-- of an object with number t: its parent, n - 1 where n is not 0, is an earlier directory
+abbrev pub kindAt : Facility → ℕ → ℕ
+kindAt f t = (objectOf f t) .kind
+
+abbrev pub ParentFit : Facility → ℕ → ℕ → Type 0
+ParentFit f t n = n ≢ 0 → (n - 1 < t) × (kindAt f (n - 1) ≡ 1)
+
 pub record Regular (f : Facility) : Type 0 where
   pub sound : Sound f
   pub switches : allowedBy switchesKind (switchesRecord (switchesOf f)) ≡ true
   pub user : (u : ℕ) → u < f .users → allowedBy usersKind (userRecord (userOf f u)) ≡ true
   pub object : (t : ℕ) → t < f .entered → allowedBy objectsKind (objectRecord (objectOf f t)) ≡ true
+  pub parent : (t : ℕ) → t < f .entered → ParentFit f t ((objectOf f t) .parent)
   pub process : (p : ℕ) → LawfulProcess (processOf f p)
 
 -- each way of changing a facility keeps it
@@ -55,6 +65,7 @@ regular-process f p r R h L =
       switches = R .switches;
       user = R .user;
       object = R .object;
+      parent = R .parent;
       process = each f p r (λ q x. LawfulProcess x) (R .sound .shaped) h L (R .process);
     }
 
@@ -66,6 +77,7 @@ regular-opens f l e R =
       switches = R .switches;
       user = R .user;
       object = R .object;
+      parent = R .parent;
       process = R .process;
     }
 
@@ -77,6 +89,7 @@ regular-counted f u R =
       switches = R .switches;
       user = R .user;
       object = R .object;
+      parent = R .parent;
       process = R .process;
     }
 
@@ -88,6 +101,7 @@ regular-drop f t R =
       switches = R .switches;
       user = R .user;
       object = R .object;
+      parent = R .parent;
       process = R .process;
     }
 
@@ -102,13 +116,28 @@ regular-user f u R h a =
           (λ e. subst⁻¹ (λ (k : ℕ). allowedBy usersKind (userRecord (userOf (putUser f u) k)) ≡ true) e (rw (user-new f u (R .sound .shaped) h) a))
           (λ n. rw (user-old f u v n) (R .user v (omega arith)));
       object = R .object;
+      parent = R .parent;
       process = R .process;
     }
 
+-- a new object's parent, and those of the old ones
+parents-new : (f : Facility) (o : Object) → Regular f → f .entered < mostObjects → ParentFit f (f .entered) (o .parent)
+    → (t : ℕ) → t < f .entered + 1 → ParentFit (putObject f o) t ((objectOf (putObject f o) t) .parent)
+parents-new f o R h pf t b =
+    by-eq t (f .entered)
+    (λ e. subst⁻¹ (λ (k : ℕ). ParentFit (putObject f o) k ((objectOf (putObject f o) k) .parent)) e
+    (subst⁻¹ (λ (x : Object). ParentFit (putObject f o) (f .entered) (x .parent)) (object-new f o (R .sound .shaped) h)
+    (old (f .entered) (o .parent) (omega arith) pf)))
+    (λ n. subst⁻¹ (λ (x : Object). ParentFit (putObject f o) t (x .parent)) (object-old f o t n)
+    (old t _ (omega arith) (R .parent t (omega arith))))
+  where
+    old : (k n : ℕ) → k ≤ f .entered → ParentFit f k n → ParentFit (putObject f o) k n
+    old k n l p z = let (a, b) = p z in (a, ap (λ (x : Object). x .kind) (object-old f o (n - 1) (omega arith)) ∙ b)
+
 pub regular-object : (f : Facility) (o : Object) → Regular f → f .entered < mostObjects → allowedBy objectsKind (objectRecord o) ≡ true
-    → Regular (putObject f o)
+    → ParentFit f (f .entered) (o .parent) → Regular (putObject f o)
 unfolding putObject
-regular-object f o R h a =
+regular-object f o R h a pf =
     record {
       sound = sound-object f o h (R .sound);
       switches = R .switches;
@@ -117,6 +146,7 @@ regular-object f o R h a =
           by-eq t (f .entered)
           (λ e. subst⁻¹ (λ (k : ℕ). allowedBy objectsKind (objectRecord (objectOf (putObject f o) k)) ≡ true) e (rw (object-new f o (R .sound .shaped) h) a))
           (λ n. rw (object-old f o t n) (R .object t (omega arith)));
+      parent = parents-new f o R h pf;
       process = R .process;
     }
 
@@ -135,9 +165,31 @@ unfolding allowedBy
 allowed-clearance u h = level-lawful _ (and-l _ _ h)
 
 -- a created object's bytes are allowed
-created-allowed : (r : Process) (e : ℕ) → LawfulProcess r → leb e 3 ≡ true → allowedBy objectsKind (objectRecord (created r e)) ≡ true
-unfolding allowedBy _and_ _or_
-created-allowed r e L h = rw (h, lawful-level _ (L .current))
+first-parent-small : (e t : ℕ) → firstParent e t ≤ 255
+unfolding firstParent
+first-parent-small e t =
+    by-test (inDirectory e and ltb t mostObjects)
+    (λ d. let b : t < mostObjects = ltb-true _ _ (and-r _ _ d) in rw d (omega arith))
+    (λ d. rw d (omega arith))
+
+created-allowed : (r : Process) (e t : ℕ) → LawfulProcess r → leb e 3 ≡ true → allowedBy objectsKind (objectRecord (created r e t)) ≡ true
+unfolding allowedBy firstFlags _and_ _or_
+created-allowed r e t L h =
+    by-test (inDirectory e)
+    (λ d. rw (h, lawful-level _ (L .current), d, le-leb _ 255 (first-parent-small e t)) refl)
+    (λ d. rw (h, lawful-level _ (L .current), d, le-leb _ 255 (first-parent-small e t)) refl)
+
+-- and its parent is the directory that it is created in
+created-parent : (f : Facility) (r : Process) (e t : ℕ) → t < f .entered → kindAt f t ≡ 1 → ParentFit f (f .entered) ((created r e t) .parent)
+unfolding firstParent
+created-parent f r e t h k =
+    by-test (inDirectory e and ltb t mostObjects)
+    (λ d. rw d (λ z. let w : t + 1 - 1 ≡ t = omega arith in (omega arith, ap (kindAt f) w ∙ k)))
+    (λ d. rw d (λ z. absurd (z refl)))
+
+no-parent : (f : Facility) (r : Process) (e t : ℕ) → inDirectory e ≡ false → ParentFit f (f .entered) ((created r e t) .parent)
+unfolding firstParent _and_
+no-parent f r e t d = rw d (λ z. absurd (z refl))
 
 -- the process of a login and that of no process are lawful, and a move keeps that
 fresh-lawful : (u : ℕ) → LawfulProcess (freshProcess u)
@@ -185,6 +237,11 @@ regular-open (Add m) f p t R = regular-opens f _ (simp length-set (R .sound .sha
 regular-open Close f p t R = regular-opens f _ (simp length-set (R .sound .shaped .opens)) R
 regular-open CloseAll f p t R = regular-drop _ t (regular-opens f _ (length-object-closed _ _ ∙ R .sound .shaped .opens) R)
 
+put-parent : (f : Facility) (p : ℕ) (r : Process) (n : ℕ) → ParentFit f (f .entered) n
+    → ParentFit (putProcess f p r) ((putProcess f p r) .entered) n
+unfolding putProcess
+put-parent f p r n h = h
+
 put-entered : (f : Facility) (p : ℕ) (r : Process) → (putProcess f p r) .entered ≡ f .entered
 unfolding putProcess
 put-entered f p r = refl
@@ -194,19 +251,23 @@ module _ (f : Facility) (c : Call) (R : Regular f) where
   object-there : live f (c .target) ≡ true → allowedBy objectsKind (objectRecord (objectOf f (c .target))) ≡ true
   object-there h = R .object (c .target) (R .sound .alive (c .target) h)
 
-  regular-create : Passed Create (viewOf f c) c → Regular (effectBy Create f c)
+  regular-create : actionOf (c .request) ≡ Create → Passed Create (viewOf f c) c → Regular (effectBy Create f c)
   unfolding effectFrom macRule
-  regular-create q =
+  regular-create k q =
       by-test (inDirectory (c .extra))
       (λ e.
-      let a = object-there (rw e at (q .alive)) in
+      let v : live f (c .target) ≡ true = rw e at (q .alive) in
+      let a = object-there v in
+      let d = create-directory (kindAt f (c .target)) (rw (request-create _ k) at (rw e at (q .class))) in
       let L = moved-lawful (viewOf f c) c (R .process (c .process)) a (λ m. rw e at (mac-passed Create (viewOf f c) c q m)) in
       let h : (putProcess f (c .process) (moved (viewOf f c) c)) .entered < mostObjects
       = rw (put-entered f (c .process) (moved (viewOf f c) c)) (ltb-true _ _ (q .room)) in
-      rw (e, add-object (putProcess f (c .process) (moved (viewOf f c) c)) (created (moved (viewOf f c) c) (c .extra)) h)
-      (regular-object _ _ (regular-process f (c .process) _ R (q .process) L) h (created-allowed _ (c .extra) L (q .kind))))
-      (λ e. rw (e, add-object f (created (viewOf f c .caller) (c .extra)) (ltb-true _ _ (q .room)))
-      (regular-object f _ R (ltb-true _ _ (q .room)) (created-allowed _ (c .extra) (R .process (c .process)) (q .kind))))
+      rw (e, add-object (putProcess f (c .process) (moved (viewOf f c) c)) (created (moved (viewOf f c) c) (c .extra) (c .target)) h)
+      (regular-object _ _ (regular-process f (c .process) _ R (q .process) L) h (created-allowed _ (c .extra) (c .target) L (q .kind))
+      (put-parent f (c .process) _ _ (created-parent f (moved (viewOf f c) c) (c .extra) (c .target) (R .sound .alive (c .target) v) d))))
+      (λ e. rw (e, add-object f (created (viewOf f c .caller) (c .extra) (c .target)) (ltb-true _ _ (q .room)))
+      (regular-object f _ R (ltb-true _ _ (q .room)) (created-allowed _ (c .extra) (c .target) (R .process (c .process)) (q .kind))
+      (no-parent f (viewOf f c .caller) (c .extra) (c .target) e)))
 
   regular-object-call : Passed OnObject (viewOf f c) c → Regular (effectBy OnObject f c)
   unfolding effectFrom macRule
@@ -215,21 +276,21 @@ module _ (f : Facility) (c : Call) (R : Regular f) where
       let L = moved-lawful (viewOf f c) c (R .process (c .process)) a (λ m. mac-passed OnObject (viewOf f c) c q m) in
       regular-open (openChange (c .request)) _ (c .process) (c .target) (regular-process f (c .process) _ R (q .process) L)
 
-  regular-effect : (k : Action) → Passed k (viewOf f c) c → Regular (effectBy k f c)
+  regular-effect : (k : Action) → actionOf (c .request) ≡ k → Passed k (viewOf f c) c → Regular (effectBy k f c)
   unfolding effectFrom
-  regular-effect Login q = regular-process f (c .process) _ R (q .process) (fresh-lawful (c .extra))
-  regular-effect Clone q =
+  regular-effect Login k q = regular-process f (c .process) _ R (q .process) (fresh-lawful (c .extra))
+  regular-effect Clone k q =
       regular-opens _ _ (length-process-copied _ _ _ ∙ R .sound .shaped .opens)
       (regular-process f (c .target) _ R (ltb-true _ _ (q .cloned)) (R .process (c .process)))
-  regular-effect SendSignal q = R
-  regular-effect SetLevel q =
+  regular-effect SendSignal k q = R
+  regular-effect SetLevel k q =
       regular-process f (c .process) _ R (q .process) (levelled-lawful (viewOf f c) c (R .process (c .process)) (q .level))
-  regular-effect Terminate q =
+  regular-effect Terminate k q =
       regular-opens _ _ (length-process-closed _ _ ∙ R .sound .shaped .opens)
       (regular-process f (c .process) _ R (q .process) none-lawful)
-  regular-effect Create q = regular-create q
-  regular-effect OnObject q = regular-object-call q
-  regular-effect Unknown q = R
+  regular-effect Create k q = regular-create k q
+  regular-effect OnObject k q = regular-object-call q
+  regular-effect Unknown k q = R
 
 regular-refused : (f : Facility) (u n : ℕ) → Regular f → Regular (afterRefusal f u n)
 unfolding afterRefusal
@@ -239,7 +300,7 @@ pub regular-after : (f : Facility) (c : Call) → Regular f → Regular (after f
 unfolding after
 regular-after f c R =
     by-test (accepted f c)
-    (λ h. rw h (regular-effect f c R (actionOf (c .request)) (passed (actionOf (c .request)) (viewOf f c) c (accepted-zero f c h))))
+    (λ h. rw h (regular-effect f c R (actionOf (c .request)) refl (passed (actionOf (c .request)) (viewOf f c) c (accepted-zero f c h))))
     (λ h. rw h (regular-refused f (ownerIn f c) (number f c) R))
 
 pub regular-run : (cs : List Call) (f : Facility) → Regular f → Regular (run f cs)

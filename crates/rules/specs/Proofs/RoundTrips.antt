@@ -10,17 +10,20 @@ use native.Mathlib.Omega.{arith}
 use borrow.Author.Tests.{ltb-true, eqb-true, lt-ltb, le-leb, eq-eqb}
 use Rattle.rules.specs.Types.{User, Object, Facility}
 use Rattle.labels.specs.Laws.Decisions.{and-l, and-r, and-i, clash, by-test}
-use Rattle.state.specs.State.{switchesOf, allOff, blank}
+use Rattle.state.specs.State.{objectsIn, objectIn, objectOf, live, switchesOf, allOff, blank}
 use Rattle.rules.specs.Histories.{run}
 use Rattle.rules.specs.Kinds.{kindOf}
 use Rattle.rules.specs.Setup.{recordsOf, bytesOfAll, allowedLength, sized, switchesEntered, userEntered, objectEntered, recordsIn, readSetup, fresh}
-use Rattle.rules.specs.Setup.{isAccepted, switchesRecord, userRecord, objectRecord, usersOf, liveObjects, sections, together, setupRecords}
-use Rattle.rules.specs.Setup.{setupBytes}
+use Rattle.rules.specs.Setup.{isAccepted, switchesRecord, userRecord, objectRecord, usersOf, liveObjects, withParent, writtenObject, writtenObjects}
+use Rattle.rules.specs.Setup.{sections, together, setupRecords, setupBytes}
 use Rattle.rules.specs.Promises.{SameSetup, ReadBack, RoundTrips}
 use Rattle.rules.specs.Proofs.Regular.{Regular, regular-run}
 use Rattle.rules.specs.Proofs.Bytes.{bytes-of-records, records-of-bytes, bytes-length}
 use Rattle.rules.specs.Proofs.Past.{All}
-use Rattle.rules.specs.Proofs.Fresh.{fresh-setup}
+use Rattle.rules.specs.Proofs.Records.{nineteen}
+use Rattle.rules.specs.Proofs.Listed.{listed-same}
+use Rattle.rules.specs.Proofs.Parents.{parent-all}
+use Rattle.rules.specs.Proofs.Fresh.{Fresh, fresh-setup}
 use Rattle.rules.specs.Proofs.Accepted.{AllAccepted, enterEach, accepted-read, read-accepted, mostOf, turn-few, turn-same}
 use Rattle.rules.specs.Proofs.Sections.{ObjectFit, objects-fit, kindsInTurn, in-turn, all-accepted}
 use Rattle.rules.specs.Proofs.Written.{accepted-written}
@@ -82,20 +85,36 @@ objects-told : (os : List Object) → All ObjectFit os → map objectEntered (ma
 objects-told [] a = refl
 objects-told (o ∷ os) a =
     let e = a .0 .1 in
-    λ i. record { live = sym e i; kind = o .kind; label = o .label; category = o .category; datatype = o .datatype } ∷ objects-told os (a .1) i
+    λ i. record {
+      live = sym e i;
+      kind = o .kind;
+      label = o .label;
+      category = o .category;
+      datatype = o .datatype;
+      flags = o .flags;
+      parent = o .parent;
+    } ∷ objects-told os (a .1) i
+
+-- of a fresh facility the objects are written as they are: all live
+fresh-written : (g : Facility) → Fresh g → writtenObjects g ≡ liveObjects g
+unfolding objectIn
+fresh-written g G =
+    listed-same (g .entered) (live g) (live g) (objectOf g) (writtenObject (objectsIn g)) (λ t b. refl)
+    (λ t b. ap (withParent (objectOf g t)) (parent-all (objectsIn g) ((objectOf g t) .parent) (g .entered)
+    (λ z. let p = G .regular .parent t b z .0 in omega arith) (λ u c. G .whole u c)))
 
 -- facilities that are written out alike have the same switches, users and live objects
-same-setup : (f g : Facility) → Regular f → Regular g → setupRecords g ≡ setupRecords f → SameSetup f g
+same-setup : (f g : Facility) → Regular f → Fresh g → setupRecords g ≡ setupRecords f → SameSetup f g
 unfolding setupRecords
 same-setup f g R Q e =
     let s : switchesRecord (switchesOf g) ≡ switchesRecord (switchesOf f) = cc in
     let t : together sections g ≡ together sections f = cc in
-    let (us, (os, z)) = turn-same g f 2 2 kindsInTurn sections (in-turn g Q) (in-turn f R) t in
+    let (us, (os, z)) = turn-same g f 2 2 kindsInTurn sections (in-turn g (Q .regular)) (in-turn f R) t in
     record {
       switches = ap switchesEntered s;
       users = sym (users-told (usersOf g)) ∙ ap (map userEntered) us ∙ users-told (usersOf f);
-      objects = sym (objects-told (liveObjects g) (objects-fit g Q)) ∙ ap (map objectEntered) os
-          ∙ objects-told (liveObjects f) (objects-fit f R);
+      objects = sym (fresh-written g Q) ∙ sym (objects-told (writtenObjects g) (objects-fit g (Q .regular))) ∙ ap (map objectEntered) os
+          ∙ objects-told (writtenObjects f) (objects-fit f R);
     }
 
 regular-back : (f : Facility) → Regular f → ReadBack f
@@ -103,7 +122,7 @@ regular-back f R =
     let e = read-back f R in
     record {
       allowed = rw e;
-      same = same-setup f _ R (fresh-setup (setupBytes f) .regular) (rw e (records-same f R));
+      same = same-setup f _ R (fresh-setup (setupBytes f)) (rw e (records-same f R));
     }
 
 pub round-trips : RoundTrips
@@ -111,4 +130,5 @@ round-trips =
     record {
       written = read-written;
       read = λ s cs. regular-back (run (fresh s) cs) (regular-run cs (fresh s) (fresh-setup s .regular));
+      nineteen = nineteen;
     }

@@ -99,6 +99,8 @@ sound-blank s =
           levels = zeros-length mostObjects;
           categories = zeros-length mostObjects;
           datatypes = zeros-length mostObjects;
+          flags = zeros-length mostObjects;
+          parents = zeros-length mostObjects;
         };
         processes = record {
           runnings = zeros-length mostProcesses;

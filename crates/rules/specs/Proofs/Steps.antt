@@ -199,12 +199,13 @@ step-create f a c I k q =
     let n : not (isAbsent (classIn (viewOf f c) c)) ≡ true = rw e at (q .class) in
     let G = granted-on f a c I (q .running) (rw e at (mac-passed Create (viewOf f c) c q (I .mac))) in
     let r4 = request-create _ k in
-    rw (e, add-object (putProcess f (c .process) (moved (viewOf f c) c)) (created (moved (viewOf f c) c) (c .extra)) (ltb-true _ _ (q .room)))
-    (inv-enter (putProcess f (c .process) (moved (viewOf f c) c)) (objectGains a (c .process) (c .target)) (created (moved (viewOf f c) c) (c .extra))
+    rw (e, add-object (putProcess f (c .process) (moved (viewOf f c) c)) (created (moved (viewOf f c) c) (c .extra) (c .target)) (ltb-true _ _ (q .room)))
+    (inv-enter (putProcess f (c .process) (moved (viewOf f c) c)) (objectGains a (c .process) (c .target))
+    (created (moved (viewOf f c) c) (c .extra) (c .target))
     (give-now f a c I (q .process) (q .running) v G (G .over (rw r4 (class-create _ (rw r4 at n)))))
     (ltb-true _ _ (q .room))))
-    (λ e. rw (e, add-object f (created (viewOf f c .caller) (c .extra)) (ltb-true _ _ (q .room)))
-    (inv-enter f a (created (viewOf f c .caller) (c .extra)) I (ltb-true _ _ (q .room))))
+    (λ e. rw (e, add-object f (created (viewOf f c .caller) (c .extra) (c .target)) (ltb-true _ _ (q .room)))
+    (inv-enter f a (created (viewOf f c .caller) (c .extra) (c .target)) I (ltb-true _ _ (q .room))))
 
 -- a call of class N: what its open mark says
 neutral-read : (f : Facility) (c : Call) → openFor (viewOf f c) c ≡ true → eqb (c .request) 12 ≡ true → reading (opensOf f (c .process) (c .target)) ≡ true

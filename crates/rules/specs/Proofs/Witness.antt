@@ -26,7 +26,7 @@ use Rattle.rules.specs.Histories.{trustedLogin, trustedLogins, history}
 use Rattle.rules.specs.Requests.{Action, OnObject, Class, Absent, Reads, Writes, Both, NoCondition, OpenChange, Keep, Add, Close, CloseAll}
 use Rattle.rules.specs.Requests.{lastRequest, actionOf, classOf, isAbsent, isNoCondition, isLogin, openChange}
 use Rattle.rules.specs.Matter.{Account, processGains, objectGains, takes, gives, carry, carryBy, afterEntry, account}
-use Rattle.rules.specs.Modules.{View, viewOf, classIn, macClass, macObject, macRule, macAnswer, fcAnswer, simAnswer, answers, moveBy, moved}
+use Rattle.rules.specs.Modules.{View, viewOf, classIn, macClass, macObject, macRule, macAnswer, fcAnswer, simAnswer, ffAnswer, answers, moveBy, moved}
 use Rattle.rules.specs.Questions.{openFor, numberBy}
 use Rattle.rules.specs.Proofs.Passed.{all-passed}
 
@@ -59,8 +59,8 @@ move-owner NoCondition l r = refl
 
 -- with MAC on alone the combined answer is MAC's
 pub alone-is : (k : Action) (v : View) (c : Call) → MacAlone (v .switches) → answers k v c .combined ≡ macRule k v c
-unfolding answers answersFrom macAnswer fcAnswer simAnswer _and_
-alone-is k v c A = rw (A .mac, A .fc, A .sim) (combine-not-cared _)
+unfolding answers answersFrom macAnswer fcAnswer simAnswer ffAnswer _and_
+alone-is k v c A = rw (A .mac, A .fc, A .sim, A .ff) (combine-not-cared _)
 
 -- a state on the way, from the set-up's facility f₀: MAC alone is on, the objects are those of f₀, process p is r and its owner u
 pub record Scene (p : ℕ) (f₀ f : Facility) (a : Account) (u : ℕ) (r : Process) : Type 0 where

@@ -6,18 +6,21 @@ use mathlib.Core.List.{List, [], _∷_, _++_, map, append-assoc}
 use native.Mathlib.Omega.{arith}
 use native.Mathlib.Numerals.{add-one}
 use Rattle.rules.specs.Types.{User, Object, Facility}
-use Rattle.labels.specs.Decisions.{on}
+use Rattle.labels.specs.Decisions.{at, on}
 use Rattle.state.specs.Shaped.{Shaped}
 use Rattle.state.specs.Laws.ReadBack.{user-new, user-old, object-new, object-old}
-use Rattle.state.specs.State.{mostUsers, switchesOf, allOff, userOf, objectOf, live, putUser, putObject, blank}
+use Rattle.state.specs.State.{mostUsers, objectsIn, objectIn, switchesOf, allOff, userOf, objectOf, live, putUser, putObject, blank}
 use Rattle.opens.specs.Opens.{mostObjects}
 use Rattle.rules.specs.Kinds.{SetupRecord, kindOf, placeOf}
 use Rattle.rules.specs.Setup.{switchesEntered, userEntered, objectEntered, enterRecord, switchesRecord, userRecord, objectRecord, listed, every}
-use Rattle.rules.specs.Setup.{usersOf, liveObjects, usersSection, objectsSection, sections, together, setupRecords}
+use Rattle.rules.specs.Setup.{usersOf, withParent, renumbered, writtenObject, writtenObjects, usersSection, objectsSection, sections, together}
+use Rattle.rules.specs.Setup.{setupRecords}
+use Rattle.rules.specs.Proofs.Regular.{ParentFit, Regular}
 use Rattle.rules.specs.Proofs.Records.{Accepts, by-kind}
 use Rattle.rules.specs.Proofs.Past.{Under, under-weaker, under-none, later-place, InOrder, order-under, order-more}
 use Rattle.rules.specs.Proofs.Bytes.{map-append, nothing-after}
 use Rattle.rules.specs.Proofs.Listed.{listed-next}
+use Rattle.rules.specs.Proofs.Parents.{parent-same, parent-all}
 use Rattle.rules.specs.Proofs.Fresh.{Fresh, Told, Read, AsUser, AsObject, as-user, as-object, as-switches, read-record, read-none}
 use Rattle.rules.specs.Proofs.Accepted.{AllAccepted, enterEach}
 
@@ -36,15 +39,39 @@ new-user f u s h =
     ∙ listed-next (f .users) every every (userOf f) (userOf (putUser f u)) (λ v b. refl) (λ v b. user-old f u v (omega arith)) refl
     ∙ ap (λ (x : User). usersOf f ++ (x ∷ [])) (user-new f u s h)
 
-new-object : (f : Facility) (o : Object) → Shaped f → f .entered < mostObjects → on (o .live) ≡ true
-    → liveObjects (putObject f o) ≡ liveObjects f ++ (o ∷ [])
-new-object f o s h v =
-    let old : (t : ℕ) → t < f .entered → objectOf (putObject f o) t ≡ objectOf f t = λ t b. object-old f o t (omega arith) in
-    let new = object-new f o s h in
-    ap (λ (n : ℕ). listed n (live (putObject f o)) (objectOf (putObject f o))) (more-objects f o)
-    ∙ listed-next (f .entered) (live f) (live (putObject f o)) (objectOf f) (objectOf (putObject f o))
-    (λ t b. ap (λ (x : Object). on (x .live)) (old t b)) old (ap (λ (x : Object). on (x .live)) new ∙ v)
-    ∙ ap (λ (x : Object). liveObjects f ++ (x ∷ [])) new
+-- the lives of the objects before a new one, and so their parents' new numbers, stay
+lives-kept : (f : Facility) (o : Object) (t : ℕ) → t < f .entered → at (objectsIn (putObject f o) .lives) t ≡ at (objectsIn f .lives) t
+unfolding objectIn
+lives-kept f o t h = ap (λ (x : Object). x .live) (object-old f o t (omega arith))
+
+old-written : (f : Facility) (o : Object) → Regular f → (t : ℕ) → t < f .entered
+    → writtenObject (objectsIn (putObject f o)) t ≡ writtenObject (objectsIn f) t
+old-written f o R t b =
+    let y = objectsIn (putObject f o) in
+    ap (renumbered y) (object-old f o t (omega arith))
+    ∙ ap (withParent (objectOf f t)) (parent-same (objectsIn f) y ((objectOf f t) .parent) (f .entered)
+    (λ z. let p = R .parent t b z .0 in omega arith) (λ u c. lives-kept f o u c))
+
+-- a new one is written as it is where all before it live
+new-written : (f : Facility) (o : Object) → Fresh f → f .entered < mostObjects → ParentFit f (f .entered) (o .parent)
+    → writtenObject (objectsIn (putObject f o)) (f .entered) ≡ o
+unfolding objectIn
+new-written f o F h pf =
+    let y = objectsIn (putObject f o) in
+    ap (renumbered y) (object-new f o (F .regular .sound .shaped) h)
+    ∙ ap (withParent o) (parent-all y (o .parent) (f .entered) (λ z. pf z .0)
+    (λ t b. ap (λ (n : ℕ). on n) (lives-kept f o t b) ∙ F .whole t b))
+
+new-object : (f : Facility) (o : Object) → Fresh f → f .entered < mostObjects → ParentFit f (f .entered) (o .parent) → on (o .live) ≡ true
+    → writtenObjects (putObject f o) ≡ writtenObjects f ++ (o ∷ [])
+new-object f o F h pf v =
+    let y = objectsIn (putObject f o) in
+    let new = object-new f o (F .regular .sound .shaped) h in
+    ap (λ (n : ℕ). listed n (live (putObject f o)) (writtenObject y)) (more-objects f o)
+    ∙ listed-next (f .entered) (live f) (live (putObject f o)) (writtenObject (objectsIn f)) (writtenObject y)
+    (λ t b. ap (λ (x : Object). on (x .live)) (object-old f o t (omega arith))) (old-written f o (F .regular))
+    (ap (λ (x : Object). on (x .live)) new ∙ v)
+    ∙ ap (λ (x : Object). writtenObjects f ++ (x ∷ [])) (new-written f o F h pf)
 
 -- The argument over sections: those before r's own stay, r's own has r more, those after it are empty.
 data Grown (f g : Facility) (r : SetupRecord) : List (Facility → List SetupRecord) → Type 0 where
@@ -67,7 +94,7 @@ written-more f g r e G = λ i. switchesRecord (e i) ∷ grown f g r sections G i
 module _ (past : List SetupRecord) (f : Facility) (T : Told past f) where
   objects-none : Under 3 past → objectsSection f ≡ []
   unfolding kindOf listed
-  objects-none u = ap (λ (n : ℕ). map objectRecord (listed n (live f) (objectOf f))) (T .entered ∙ under-none 2 past u)
+  objects-none u = ap (λ (n : ℕ). map objectRecord (listed n (live f) (writtenObject (objectsIn f)))) (T .entered ∙ under-none 2 past u)
 
   users-none : Under 2 past → usersSection f ≡ []
   unfolding kindOf listed
@@ -87,8 +114,8 @@ users-grow f r F U =
 
 objects-grow : (f : Facility) (r : SetupRecord) → Fresh f → AsObject f r → objectsSection (putObject f (objectEntered r)) ≡ objectsSection f ++ (r ∷ [])
 objects-grow f r F O =
-    ap (map objectRecord) (new-object f (objectEntered r) (F .regular .sound .shaped) (O .room) refl)
-    ∙ map-append objectRecord (liveObjects f) (objectEntered r ∷ [])
+    ap (map objectRecord) (new-object f (objectEntered r) F (O .room) (O .parent) refl)
+    ∙ map-append objectRecord (writtenObjects f) (objectEntered r ∷ [])
     ∙ ap (λ (x : SetupRecord). objectsSection f ++ (x ∷ [])) (O .is)
 
 user-switches : (f : Facility) (u : User) → switchesOf (putUser f u) ≡ switchesOf f

@@ -14,6 +14,10 @@ returns-3 : tie.Need-returns-3
 unfolding _or_
 returns-3 c = rw (c .before .test2 .given .1)
 
+returns-4 : tie.Need-returns-4
+returns-4 c = rw (c .before .test3 .given .1)
+
 pub byte-allowed-spec : {M : Type 1} → statement M
 byte-allowed-spec =
-    tie.close (tie.spec (λ c. search needs) (λ c. search needs) (λ c. search needs) returns returns-2 returns-3)
+    tie.close
+    (tie.spec (λ c. search needs) (λ c. search needs) (λ c. search needs) (λ c. search needs) returns returns-2 returns-3 returns-4)

@@ -1,63 +1,49 @@
 -- The section so far, and the next object, where it is live, stored behind it.
 use Rattle.setup.proofs.put_objects.Statement.{statement}
 use Rattle.setup.proofs.put_objects.Tie as tie
-use Prim.Native.Nat.{ℕ, _-_, _≤_}
-use mathlib.Core.Path.{_≡_, subst}
-use native.Mathlib.Omega.{arith}
+use Prim.Native.Nat.{_-_}
+use mathlib.Core.Path.{_∙_, ap, subst}
+use mathlib.Core.List.{List}
 use borrow.Author.Needs.{needs}
-use Rattle.state.specs.declared.Object.{Object}
 use Rattle.state.specs.State.{objectIn, objectsFrom}
-use Rattle.rules.specs.Setup.{objectRecord}
-use Rattle.setup.specs.Writing.{Stored, liveIn, objectRecords, liveRecord}
-use Rattle.setup.proofs.WritingLoop.{section-begins, section-goes-on, section-most, stored-length}
+use Rattle.rules.specs.declared.SetupRecord.{SetupRecord}
+use Rattle.rules.specs.Setup.{objectRecord, writtenObject}
+use Rattle.setup.specs.Writing.{Stored, liveIn, liveRecord, livesOnly}
+use Rattle.setup.proofs.WritingLoop.{Storing, section-begins, section-place, section-goes-on, section-length, section-ends, record-told}
 
 abbrev Inv-loop : tie.InvT-loop
-Inv-loop out₀ start lives kinds levels categories datatypes n place₀ k₀ out place k =
-    (k ≤ n) × Stored out₀ start (objectRecords k (objectsFrom lives kinds levels categories datatypes)) out place
+Inv-loop out₀ start lives kinds levels categories datatypes flags parents n place₀ k₀ out place k =
+    let x = objectsFrom lives kinds levels categories datatypes flags parents in
+    Storing objectRecord (liveIn x) (writtenObject x) n out₀ start k out place
 
 abbrev μ-loop : tie.MeasureT-loop
-μ-loop out₀ start lives kinds levels categories datatypes n place₀ k₀ out place k = n - k
+μ-loop out₀ start lives kinds levels categories datatypes flags parents n place₀ k₀ out place k = n - k
 
 loop-holds : tie.Need-loop-holds Inv-loop μ-loop
-loop-holds c =
-    let a = c .before .before .before .before .before .before .args in
-    let x = objectsFrom (a .lives .now) (a .kinds .now) (a .levels .now) (a .categories .now) (a .datatypes .now) in
-    (search needs, section-begins objectRecord (liveIn x) (objectIn x) (a .out .now) (a .start))
+loop-holds c = section-begins
 
 put-live-requires : tie.Need-put-live-requires Inv-loop μ-loop
 put-live-requires c κs =
     let c3 = c .before .before .before in
-    let c10 = c3 .before .before .before .before .before .before .before in
-    let l = c3 .loop in
-    let b = c10 in
-    let a = b .args in
-    let x = objectsFrom (a .lives .now) (a .kinds .now) (a .levels .now) (a .categories .now) (a .datatypes .now) in
-    let h = section-most objectRecord (l .k) (liveIn x) (objectIn x) (a .out .now) (l .out) (a .start) (l .place) (l .inv .1) in
-    omega (arith, b .pre, l .inv .0, b .fits)
+    let b = c3 .before .before .before .before .before .before .before .before .before in
+    section-place (c3 .loop .inv) (b .pre) (search (needs, b .fits))
 
 loop-again : tie.Need-loop-again Inv-loop μ-loop
 loop-again c =
     let p = c .before .before in
-    let l = p .before .before .before .before .loop in
-    let a = p .before .before .before .before .before .before .before .before .before .before .before .args in
-    let x = objectsFrom (a .lives .now) (a .kinds .now) (a .levels .now) (a .categories .now) (a .datatypes .now) in (
-      search needs,
-      section-goes-on objectRecord (l .k) (liveIn x) (objectIn x) (a .out .now) (l .out) _ (a .start) (l .place) _ (l .inv .1)
-          (subst (λ (o : Object). Stored (l .out) (l .place) (liveRecord o) (p .put-live .last .0) (p .put-live .result))
-          (p .before .before .object-at .ensures) (p .put-live .ensures)),
-    )
+    let c3 = p .before .before .before in
+    let l = c3 .before .loop in
+    let a = c3 .before .before .before .before .before .before .before .before .before .before .args in
+    let x = objectsFrom (a .lives .now) (a .kinds .now) (a .levels .now) (a .categories .now) (a .datatypes .now) (a .flags .now) (a .parents .now) in
+    let e = ap (liveRecord (livesOnly (a .lives .now))) (p .before .before .object-at .ensures) ∙ record-told x (objectIn x (l .k)) in
+    section-goes-on (l .inv) (c3 .loop-test .taken)
+    (subst (λ (rs : List SetupRecord). Stored (l .out) (l .place) rs (p .put-live .last .0) (p .put-live .result)) e (p .put-live .ensures))
 
 same-length : tie.Need-same-length Inv-loop μ-loop
-same-length c = let l = c .before .loop in stored-length _ _ _ (l .out) (l .place) (l .inv .1)
+same-length c = section-length (c .before .loop .inv)
 
 returns : tie.Need-returns Inv-loop μ-loop
-returns c =
-    let c8 = c .before .before .before .before .before .before .before .before in
-    let l = c .before .loop in
-    let a = c8 .args in
-    let x = objectsFrom (a .lives .now) (a .kinds .now) (a .levels .now) (a .categories .now) (a .datatypes .now) in
-    let e : l .k ≡ a .n = omega (arith, l .inv .0, c .loop-test .left) in
-    subst (λ (n : ℕ). Stored (a .out .now) (a .start) (objectRecords n x) (l .out) (l .place)) e (l .inv .1)
+returns c = section-ends (c .before .loop .inv) (c .loop-test .left)
 
 pub put-objects-spec : {M : Type 1} → statement M
 put-objects-spec =

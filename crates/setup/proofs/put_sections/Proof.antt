@@ -12,21 +12,26 @@ use Rattle.rules.specs.Setup.{switchesRecord, userRecord, every, usersSection, 
 use Rattle.setup.specs.Writing.{Stored}
 use Rattle.setup.proofs.WritingLoop.{section-most, nothing, then}
 
+-- a byte counts the users
+few-users : (c : tie.After-put-record) → c .before .before .before .before .args .t1 .users ≤ 255
+few-users c = search (needs, c .before .before .before .before .good)
+
 put-objects-requires : tie.Need-put-objects-requires
 put-objects-requires c κs =
-    let users = c .before .before .before .before .before .before .before .before .before .before .before .before .before .before in
+    let args = c .before .before .before .before .before .before .before .before .before .before .before .before .before .before in
+    let users = args .before .before .before .before in
     let first = users .before .before .before .before .before .before .before .before .before .before .before in
     let f = first .before .before .before .before .args .t1 in
     let h = section-most userRecord (f .users) every (userIn (usersIn f)) _ _ _ (users .put-users .result) (users .put-users .ensures) in
-    let g = first .before .before .before .before .good in
-    let n : f .users ≤ 255 = search (needs, g) in
+    let n = few-users first in
     omega (arith, first .put-record .ensures .place)
 
 returns : tie.Need-returns
 unfolding setupRecords
 returns c =
     let objects = c .before .before in
-    let users = objects .before .before .before .before .before .before .before .before .before .before .before .before .before .before .before in
+    let args = objects .before .before .before .before .before .before .before .before .before .before .before .before .before .before .before in
+    let users = args .before .before .before .before in
     let first = users .before .before .before .before .before .before .before .before .before .before .before in
     let a = first .before .before .before .before .args in
     let f = a .t1 in

@@ -79,6 +79,8 @@ object-new f o s h =
       label = label (at-same (f .levels) (f .entered) (o .label .level) mostObjects (l .levels) h i);
       category = at-same (f .categories) (f .entered) (o .category) mostObjects (l .categories) h i;
       datatype = at-same (f .datatypes) (f .entered) (o .datatype) mostObjects (l .datatypes) h i;
+      flags = at-same (f .flags) (f .entered) (o .flags) mostObjects (l .flags) h i;
+      parent = at-same (f .parents) (f .entered) (o .parent) mostObjects (l .parents) h i;
     }
 
 pub object-old : (f : Facility) (o : Object) (t : ℕ) → t ≢ f .entered → objectOf (putObject f o) t ≡ objectOf f t
@@ -90,6 +92,8 @@ object-old f o t h =
       label = label (at-other (f .levels) (f .entered) t (o .label .level) h i);
       category = at-other (f .categories) (f .entered) t (o .category) h i;
       datatype = at-other (f .datatypes) (f .entered) t (o .datatype) h i;
+      flags = at-other (f .flags) (f .entered) t (o .flags) h i;
+      parent = at-other (f .parents) (f .entered) t (o .parent) h i;
     }
 
 -- where there is room, a user or an object more is put
@@ -153,6 +157,8 @@ shaped-object f o s =
         levels = simp length-set (l .levels);
         categories = simp length-set (l .categories);
         datatypes = simp length-set (l .datatypes);
+        flags = simp length-set (l .flags);
+        parents = simp length-set (l .parents);
       };
       processes = s .processes;
       opens = s .opens;
@@ -171,6 +177,8 @@ shaped-drop f t s =
         levels = l .levels;
         categories = l .categories;
         datatypes = l .datatypes;
+        flags = l .flags;
+        parents = l .parents;
       };
       processes = s .processes;
       opens = s .opens;
@@ -242,7 +250,7 @@ pub drop-out : (f : Facility) (t : ℕ) → length (f .lives) ≡ mostObjects �
 unfolding dropObject
 drop-out f t e h =
     λ i. with f (f .users) (usersIn f) (f .entered)
-    (objectsFrom (set-out (f .lives) t 0 (omega arith) i) (f .kinds) (f .levels) (f .categories) (f .datatypes))
+    (objectsFrom (set-out (f .lives) t 0 (omega arith) i) (f .kinds) (f .levels) (f .categories) (f .datatypes) (f .flags) (f .parents))
     (processesIn f) (f .opens) (f .refusals)
 
 -- a process that is none is put, and its marks become g of what they were

@@ -17,9 +17,10 @@ returns c =
     let c2 = c3 .before .before in
     let c1 = c2 .before .before in
     let a = c1 .before .before .args in
-    stores (a .out .now) (a .place) (beforeText (a .index) (a .c) (a .v))
-    (targetText (actionOf (a .c .request)) (a .c) (a .v .target .object) ∷ outcomeText (a .o) ∷ processText (a .w .caller) (a .w .owner)
-    ∷ countText (a .o) (a .v) (a .n) ∷ (lineFeed ∷ []) ∷ [])
+    let t = a .t in
+    stores (a .out .now) (a .place) (beforeText (t .index) (t .call) (t .before))
+    (targetText (actionOf (t .call .request)) (t .call) (t .before .target) ∷ outcomeText (t .outcome) (t .reason)
+    ∷ processText (t .later .caller) (t .later .owner) ∷ countText (t .outcome) (t .before) (t .count) ∷ (lineFeed ∷ []) ∷ [])
     (c1 .put-before .ensures ▸ c2 .put-target .ensures ▸ c3 .put-outcome .ensures ▸ c4 .put-process .ensures ▸ c5 .put-count .ensures
     ▸ c6 .put-text .ensures ▸ end)
 

@@ -1,0 +1,2 @@
+-- Laws of this crate's own, for its proofs.
+pub mod Chain
