@@ -74,9 +74,10 @@ static int same(const hv_facility *a, const hv_facility *b)
 /* Set-ups written out, also after deletions, are the same. */
 static int same_written(const hv_facility *plain, const hv_facility *proved)
 {
-    uint8_t out[HV_SETUP_MOST], again[HV_SETUP_MOST];
-    hv_writing w = hv_write_setup(*proved, out, sizeof out);
-    return w.length == plain_write_setup(plain, again, sizeof again) && memcmp(out, again, w.length) == 0;
+    uint8_t out[HV_SETUP_MOST], at[HV_SETUP_MOST], again[HV_SETUP_MOST];
+    size_t n = plain_write_setup(plain, again, sizeof again);
+    return hv_write_setup(*proved, out, sizeof out).length == n && memcmp(out, again, n) == 0
+        && hv_write_setup_at(proved, at, sizeof at).length == n && memcmp(at, again, n) == 0;
 }
 
 /* The effective flags of a live object, and where it has each of them from. */
@@ -302,6 +303,25 @@ static void in_place_setup(const list *l)
     }
 }
 
+/* The set-up of the facility that a list begins with, written out. */
+static void proved_write_at(const list *l)
+{
+    uint8_t out[HV_SETUP_MOST];
+    for (int k = 0; k < l->n; k++) sink = (uint32_t)hv_write_setup_at(&l->start, out, sizeof out).length;
+}
+
+static void proved_write(const list *l)
+{
+    uint8_t out[HV_SETUP_MOST];
+    for (int k = 0; k < l->n; k++) sink = (uint32_t)hv_write_setup(l->start, out, sizeof out).length;
+}
+
+static void in_place_write(const list *l)
+{
+    uint8_t out[HV_SETUP_MOST];
+    for (int k = 0; k < l->n; k++) sink = (uint32_t)plain_write_setup(&l->start, out, sizeof out);
+}
+
 enum { DEPTH = 127, BELOW = 127 };
 
 /* FF on, 127 directories, all with add-inherited, and a file, number 127, with it too; each in the one before, or none with a parent. */
@@ -364,6 +384,7 @@ int main(void)
     work *const enforces[WORKS] = {proved_enforce_at, in_place_enforce, proved_enforce, by_value_enforce};
     work *const blocks[WORKS] = {proved_block_at, in_place_block, proved_block, NULL};
     work *const setups[WORKS] = {NULL, in_place_setup, proved_setup, NULL};
+    work *const writes[WORKS] = {proved_write_at, in_place_write, proved_write, NULL};
     make(&l, &f, ANY);
     row("call", "query", &l, queries);
     row("call", "enforce, any", &l, enforces);
@@ -405,5 +426,6 @@ int main(void)
     row("whole", "enforce and line, in blocks", &l, blocks);
     l.n = 64;
     row("whole", "set-up read and written out", &l, setups);
+    row("whole", "set-up written out", &l, writes);
     return 0;
 }

@@ -57,6 +57,10 @@ int main(void)
     hv_facility f = hv_read_setup(setup, sizeof setup).facility;
     printf("copies\treading a set-up of 5 records\t%d\n", copies);
     copies = 0;
+    uint8_t out[sizeof setup];
+    hv_write_setup(f, out, sizeof out);
+    printf("copies\twriting a set-up out\t%d\n", copies);
+    copies = 0;
     hv_query(f, HV_LOGIN, 0, 0, 0);
     printf("copies\tquery\t%d\n", copies);
     copies = 0;

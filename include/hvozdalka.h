@@ -157,6 +157,9 @@ hv_reading hv_read_setup(const uint8_t *bytes, size_t length);
  * untouched. [writeSetup, rules/Setup] */
 hv_writing hv_write_setup(hv_facility f, uint8_t *out, size_t length);
 
+/* The same of a facility where it is, without a copy. `out` has no byte of the facility. [writeSetup of facilityAt, in_place/Layout] */
+hv_writing hv_write_setup_at(const hv_facility *f, uint8_t *out, size_t length);
+
 /* What hv_enforce would answer; nothing changes. [query, rules/Calls] */
 hv_outcome hv_query(hv_facility f, uint8_t request, uint8_t process, uint8_t target, uint8_t extra);
 

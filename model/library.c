@@ -1,10 +1,12 @@
 /* Drives the library for model/through_library.py. Standard input: cases, each a set-up behind its length in two bytes, the sixteen counters of
- * refusals to begin with, in four bytes each, then calls behind their number in four bytes; all low byte first. Before a call of request 254 C
- * puts marks into the facility: the low two bits of e, for process p and object t, where p runs and t is live. Standard output: of each set-up its number and
- * the record's index in two bytes; of each call of an accepted one the outcome's seven bytes, the sixteen counters, the calling process's record,
- * the target object's record, its effective flags, and for each flag the object that it comes from; then the set-up written out after the calls,
- * behind its length in two bytes. Each call is made by value and where the facility is; a difference between the two ends the program with
- * status 1, a set-up written out that is not read back as it is with status 3. */
+ * refusals to begin with, in four bytes each, then calls behind their number in four bytes, then lengths of buffers, in two bytes each, behind
+ * their number in two; all low byte first. Before a call of request 254 C puts marks into the facility: the low two bits of e, for process p and
+ * object t, where p runs and t is live. Standard output: of each set-up its number and the record's index in two bytes; of each call of an accepted
+ * one the outcome's seven bytes, the sixteen counters, the calling process's record, the target object's record, its effective flags, and for each
+ * flag the object that it comes from; then the set-up written out after the calls, behind its length in two bytes; then for each length of a buffer
+ * number and length in two bytes, and the buffer, whose bytes were 165, with eight bytes behind it. Each call is made by value and where the
+ * facility is, and each set-up written out; a difference between the two ends the program with status 1, a set-up written out that is not read back
+ * as it is with status 3. */
 #include <stdio.h>
 #include <stdlib.h>
 #include <string.h>
@@ -84,6 +86,18 @@ static void put_setup(hv_facility f)
     put(out, w.length);
 }
 
+/* The set-up written out into a buffer of so many bytes, and what stands in the buffer and behind it. */
+static void put_room(hv_facility f, size_t room)
+{
+    enum { BEHIND = 8 };
+    static uint8_t out[2][65536 + BEHIND];
+    memset(out, 165, sizeof out);
+    hv_writing w = hv_write_setup(f, out[0], room), v = hv_write_setup_at(&f, out[1], room);
+    if (w.number != v.number || w.length != v.length || memcmp(out[0], out[1], sizeof out[0]) != 0) exit(1);
+    put((uint8_t[3]){w.number, w.length & 255, w.length >> 8 & 255}, 3);
+    put(out[0], room + BEHIND);
+}
+
 int main(void)
 {
     static uint8_t setup[65536];
@@ -102,6 +116,12 @@ int main(void)
             if (r.number == HV_ACCEPTED) one_call(&r.facility, b);
         }
         if (r.number == HV_ACCEPTED) put_setup(r.facility);
+        need(b, 2);
+        for (size_t rooms = number(b, 2); rooms > 0; rooms--) {
+            uint8_t room[2];
+            need(room, 2);
+            if (r.number == HV_ACCEPTED) put_room(r.facility, number(room, 2));
+        }
     }
     return fflush(stdout) ? 2 : 0;
 }

@@ -3,9 +3,10 @@
 Set-ups and lists of calls from the seed, until CALLS calls were made, through model/library.c: those of fuzz.py, and as many in which many users
 and objects meet calls that the modules judge. Each call is made by value and where the facility is. After each call its outcome, the sixteen
 counters of refusals, the calling process and the target object are compared, the object with its effective flags and where each comes from; after
-the last call the set-up written out, which must be read back. Half of the lists begin with counters that C put into the facility, at their stop,
+the last call the set-up written out, which must be read back, also into buffers that are too short or longer: of the first lists of each kind into
+those of every length up to 8 bytes beyond the need. Half of the lists begin with counters that C put into the facility, at their stop,
 next to it, or anywhere; in some C puts in marks of open objects, so that a write meets a read-only file, which no list of calls has open for
-writing. `rt staticlib hvozdalka` makes the library; cc, or what CC names, builds the program. Ends with the number of calls, or at the first
+writing. examples/c/library makes the library; cc, or what CC names, builds the program. Ends with the number of calls, or at the first
 difference.
 """
 
@@ -26,12 +27,13 @@ STOP = model.COUNTER_STOP
 OPENS = 254                   # a call of this request, which is none: C puts in marks before it
 CALL_BYTES = 7 + 4 * model.MAX_USERS + 6 + 7 + 1 + 5
 BATCH = 100
+EVERY = 12                    # so many lists are written out into buffers of every length
+BEYOND = 8
+OTHER = 165                   # what stands in a buffer before
 
 
 def build():
-    made = subprocess.run(["rt", "staticlib", "hvozdalka"], cwd=ROOT, capture_output=True, text=True)
-    if made.returncode != 0:
-        sys.exit(made.stdout + made.stderr)
+    subprocess.run(["examples/c/library"], cwd=ROOT, check=True)
     os.makedirs(os.path.dirname(PROGRAM), exist_ok=True)
     subprocess.run([os.environ.get("CC", "cc"), "-std=c11", "-O2", "-Wall", "-Wextra", "-Iinclude", "-o", PROGRAM, "model/library.c",
                     "target/staticlib/libhvozdalka.a"], cwd=ROOT, check=True)
@@ -97,7 +99,20 @@ def put_marks(facility, p, t, marks):
             held |= {t} if marks & bit else set()
 
 
-def expected(setup, begin, calls, seen):
+def rooms_of(rng, need, every):
+    """Lengths of buffers: every one, or some around the need and below it."""
+    return list(range(need + BEYOND + 1)) if every else [rng.randrange(need), need - 1, need, need + rng.randrange(1, BEYOND + 1)]
+
+
+def into(facility, room):
+    """What the library gives of a buffer of so many bytes, and the bytes behind it."""
+    buffer = bytearray([OTHER] * room)
+    number, length = model.write_setup(facility, buffer)
+    return bytes([number]) + length.to_bytes(2, "little") + bytes(buffer) + bytes([OTHER] * BEYOND)
+
+
+def expected(rng, setup, begin, calls, every, seen):
+    """What the library gives of a list, and the lengths of buffers that it is asked for."""
     number, index, facility = model.read_setup(setup)
     out = [bytes((number, index % 256, index // 256))]
     facility.refusals = list(begin)
@@ -113,22 +128,27 @@ def expected(setup, begin, calls, seen):
             seen["at a stop"] += facility.refusals == before
             seen["by FF"] += outcome.ff == model.NOT_GRANTED
             seen["write"] += outcome.ff == model.NOT_GRANTED and call[0] == model.WRITE and facility.objects[call[2]].kind != model.DIRECTORY
+    rooms = []
     if number == 0:
         written = model.setup_bytes(facility)
-        out.append(len(written).to_bytes(2, "little") + written)
-    return b"".join(out)
+        rooms = rooms_of(rng, len(written), every)
+        out += [len(written).to_bytes(2, "little") + written] + [into(facility, room) for room in rooms]
+        seen["buffers"] += len(rooms)
+        seen["of every length"] += every
+    return b"".join(out), rooms
 
 
-def compare(cases, seen):
+def compare(rng, cases, seen):
+    wants = [expected(rng, setup, begin, calls, seen["of every length"] < EVERY, seen) for setup, begin, calls in cases]
     given = b"".join(len(setup).to_bytes(2, "little") + setup + words(begin) + (len(calls) // 4).to_bytes(4, "little")
-                     + calls[:len(calls) // 4 * 4] for setup, begin, calls in cases)
+                     + calls[:len(calls) // 4 * 4] + b"".join(n.to_bytes(2, "little") for n in [len(rooms)] + rooms)
+                     for (setup, begin, calls), (_, rooms) in zip(cases, wants))
     run = subprocess.run([PROGRAM], input=given, stdout=subprocess.PIPE)
     if run.returncode != 0:
         sys.exit({1: "differs: by value and where the facility is", 3: "differs: a set-up written out is not read back"}.get(
             run.returncode, "the program failed: status %d" % run.returncode))
     at = 0
-    for setup, begin, calls in cases:
-        want = expected(setup, begin, calls, seen)
+    for (setup, begin, calls), (want, _) in zip(cases, wants):
         got = run.stdout[at:at + len(want)]
         at += len(want)
         if got != want:
@@ -150,12 +170,14 @@ def main():
             made += len(calls) // 4
             lists += 1
         if len(batch) >= BATCH or made >= most:
-            compare(batch, seen)
+            compare(rng, batch, seen)
             batch = []
         if made >= most:
             break
-    print("seed %d: %d calls in %d lists through the library, %d denied, %d of them at a stop, %d by FF, %d of these a write; none differs; %.0f s" % (
-        seed, made, lists, seen["denied"], seen["at a stop"], seen["by FF"], seen["write"], time.time() - begun))
+    print("seed %d: %d calls in %d lists through the library, %d denied, %d of them at a stop, %d by FF, %d of these a write; "
+          "written into %d buffers, of every length for %d lists; none differs; %.0f s" % (
+              seed, made, lists, seen["denied"], seen["at a stop"], seen["by FF"], seen["write"], seen["buffers"], seen["of every length"],
+              time.time() - begun))
 
 
 if __name__ == "__main__":

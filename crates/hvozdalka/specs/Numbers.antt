@@ -55,9 +55,6 @@ reading-is r q o e d =
     sym (ap (λ (x : SetupOutcome). record { facility = r .facility; number = setupNumber x; index = setupIndex x }) d)
     ∙ ap (λ (x : Reading). readingNumbers x) e
 
-pub writing-is : (w v o : WriteOutcome) → w ≡ v → w ≡ o → writingNumbers o ≡ writingNumbers v
-writing-is w v o e d = ap (λ (x : WriteOutcome). writingNumbers x) (sym d ∙ e)
-
 -- how process p has object t open: 1 for reading, 2 for writing, 3 for both, else 0, whatever other bits the byte has
 unfoldable pub openMarks : Facility → ℕ → ℕ → ℕ
 openMarks f p t = addModes (opensOf f p t) 0

@@ -106,20 +106,34 @@ pub extern "C" fn hv_read_setup(bytes: &[u8]) -> SetupReading
     }
 }
 
-// Writes a facility's set-up into a lent buffer. Number 0 and the length, or 18 and 0 where the buffer is too short, and then it is untouched.
-#[no_mangle]
-pub extern "C" fn hv_write_setup(f: Facility, out: &mut [u8]) -> SetupWriting
-    ensures { λ r. ⌜ r ≡ writingNumbers ((writeSetup f (now (out .entry))) .outcome) ⌝ }
-    ensures { λ r. ⌜ now (out .exit) ≡ (writeSetup f (now (out .entry))) .buffer ⌝ }
+fn writing_numbers(w: WriteOutcome) -> SetupWriting
+    ensures { λ r. ⌜ r ≡ writingNumbers w ⌝ }
 {
-    let written = setup::write_setup(f, out);
-    match written {
+    match w {
         WriteOutcome::Written { length } => SetupWriting { length, number: 0 },
         WriteOutcome::NoRoom => SetupWriting {
             length: 0,
             number: 18,
         },
     }
+}
+
+// Writes a facility's set-up into a lent buffer. Number 0 and the length, or 18 and 0 where the buffer is too short, and then it is untouched.
+#[no_mangle]
+pub extern "C" fn hv_write_setup(f: Facility, out: &mut [u8]) -> SetupWriting
+    ensures { λ r. ⌜ r ≡ writingNumbers ((writeSetup f (now (out .entry))) .outcome) ⌝ }
+    ensures { λ r. ⌜ now (out .exit) ≡ (writeSetup f (now (out .entry))) .buffer ⌝ }
+{
+    writing_numbers(setup::write_setup(f, out))
+}
+
+// The same of a facility that is read where it is, and not copied.
+#[no_mangle]
+pub extern "C" fn hv_write_setup_at(f: &[u8; in_place::SIZE], out: &mut [u8]) -> SetupWriting
+    ensures { λ r. ⌜ r ≡ writingNumbers ((writeSetup (facilityAt (now (f .entry))) (now (out .entry))) .outcome) ⌝ }
+    ensures { λ r. ⌜ now (out .exit) ≡ (writeSetup (facilityAt (now (f .entry))) (now (out .entry))) .buffer ⌝ }
+{
+    writing_numbers(in_place::write_in(f, out))
 }
 
 // What enforce would answer.

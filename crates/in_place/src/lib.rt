@@ -11,6 +11,7 @@ ghost use Rattle.rules.specs.Calls.{after, query};
 ghost use Rattle.rules.specs.Modules.{flagsSeen, targetOf, viewOf};
 ghost use Rattle.rules.specs.Questions.{runsOf};
 ghost use Rattle.rules.specs.Requests.{actionOf};
+ghost use Rattle.rules.specs.Setup.{writeSetup};
 ghost use Rattle.labels.specs.Labels.{label};
 ghost use Rattle.labels.specs.Decisions.{at};
 ghost use Rattle.opens.specs.Opens.{closeObject, closeProcess, copyProcess};
@@ -19,6 +20,7 @@ ghost use Rattle.state.specs.State.{processOf, processesFrom, putMarks, putOpen
 ghost use Rattle.state.specs.State.{userOf, usersFrom};
 ghost use Rattle.state.specs.Shaped.{ObjectsShaped, ProcessesShaped, UsersShaped};
 use answers::Outcome;
+use answers::WriteOutcome;
 use labels::Label;
 use opens::OpenChange;
 use rules::Runs;
@@ -177,15 +179,23 @@ fn switches_in(s: &[u8]) -> Switches
     }
 }
 
-// The effective flags of object t, where FF is on. The arrays are lent to those who know them.
+// The n bytes of a field from a place on, lent to those who know them.
+fn lent(s: &[u8], from: u16, n: u16) -> &[u8]
+    requires { ⌜ (length (now s) ≡ wholeSize) × (from + n ≤ wholeSize) ⌝ }
+    ensures { λ r. ⌜ now r ≡ part (now (s .entry)) from n ⌝ }
+{
+    &s[from as usize..(from as usize) + (n as usize)]
+}
+
+// The effective flags of object t, where FF is on.
 fn flags_in(s: &[u8], t: u8) -> u8
     requires { ⌜ length (now s) ≡ wholeSize ⌝ }
     ensures { λ r. ⌜ r ≡ flagsSeen (facilityAt (now (s .entry))) t ⌝ }
 {
     let ff = byte_in(s, FF, 1, 0);
-    let lives = &s[LIVES as usize..KINDS as usize];
-    let flags = &s[FLAGS as usize..PARENTS as usize];
-    let parents = &s[PARENTS as usize..LAST_PADDING as usize];
+    let lives = lent(s, LIVES, OBJECT_COUNT);
+    let flags = lent(s, FLAGS, OBJECT_COUNT);
+    let parents = lent(s, PARENTS, OBJECT_COUNT);
     flags::seen_at(ff, lives, flags, parents, t as usize)
 }
 
@@ -266,6 +276,50 @@ pub fn query_in(s: &[u8; SIZE], c: Call) -> Outcome
     ensures { λ r. ⌜ r ≡ query (facilityAt (now (s .entry))) c ⌝ }
 {
     query(s, c)
+}
+
+fn write(s: &[u8], out: &mut [u8]) -> WriteOutcome
+    requires { ⌜ length (now s) ≡ wholeSize ⌝ }
+    ensures { λ r. ⌜ r ≡ (writeSetup (facilityAt (now (s .entry))) (now (out .entry))) .outcome ⌝ }
+    ensures { λ r. ⌜ now (out .exit) ≡ (writeSetup (facilityAt (now (s .entry))) (now (out .entry))) .buffer ⌝ }
+{
+    let switches = switches_in(s);
+    let users = byte_in(s, USERS, 1, 0);
+    let clearances = lent(s, CLEARANCES, USER_COUNT);
+    let roles = lent(s, ROLES, USER_COUNT);
+    let trusts = lent(s, TRUSTS, USER_COUNT);
+    let entered = byte_in(s, ENTERED, 1, 0);
+    let lives = lent(s, LIVES, OBJECT_COUNT);
+    let kinds = lent(s, KINDS, OBJECT_COUNT);
+    let levels = lent(s, LEVELS, OBJECT_COUNT);
+    let categories = lent(s, CATEGORIES, OBJECT_COUNT);
+    let datatypes = lent(s, DATATYPES, OBJECT_COUNT);
+    let flags = lent(s, FLAGS, OBJECT_COUNT);
+    let parents = lent(s, PARENTS, OBJECT_COUNT);
+    setup::write_parts(
+        out,
+        switches,
+        users,
+        clearances,
+        roles,
+        trusts,
+        entered,
+        lives,
+        kinds,
+        levels,
+        categories,
+        datatypes,
+        flags,
+        parents,
+    )
+}
+
+// Writes the facility's set-up into a lent buffer, out of its bytes where they are.
+pub fn write_in(s: &[u8; SIZE], out: &mut [u8]) -> WriteOutcome
+    ensures { λ r. ⌜ r ≡ (writeSetup (facilityAt (now (s .entry))) (now (out .entry))) .outcome ⌝ }
+    ensures { λ r. ⌜ now (out .exit) ≡ (writeSetup (facilityAt (now (s .entry))) (now (out .entry))) .buffer ⌝ }
+{
+    write(s, out)
 }
 
 // Byte i of the n bytes from a place on becomes v; nothing where there is no such byte.

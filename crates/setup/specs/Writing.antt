@@ -8,8 +8,10 @@ use lib.ListN.{length}
 use lib.Seq.{sets}
 use Rattle.rules.specs.declared.SetupRecord.{SetupRecord}
 use Rattle.rules.specs.Setup.{bytesOf, userRecord, every, listed, objectRecord, renumbered, writtenObject}
-use Rattle.state.specs.State.{Users, userIn, Objects, objectIn, objectsFrom}
+use Rattle.state.specs.State.{Users, userIn, Objects, objectIn, objectsFrom, processesIn, blank, with}
+use Rattle.state.specs.declared.Facility.{Facility}
 use Rattle.state.specs.declared.Object.{Object}
+use Rattle.state.specs.declared.Switches.{Switches}
 use Rattle.labels.specs.Decisions.{on}
 
 -- a record at a place of the buffer o, where it fits whole, and records one after the other
@@ -46,3 +48,8 @@ liveRecord x o = map objectRecord (cond (on (o .live)) (renumbered x o ∷ []) [
 -- objects of which only the live ones are told: new numbers look at nothing else
 abbrev pub livesOnly : List ℕ → Objects
 livesOnly l = objectsFrom l [] [] [] [] [] []
+
+-- the facility of these switches, users and objects, in which nothing has run yet: of a facility the writer looks at no more
+abbrev pub facilityWith : Switches → ℕ → Users → ℕ → Objects → Facility
+facilityWith s users us entered os =
+    with (blank s) users us entered os (processesIn (blank s)) ((blank s) .opens) ((blank s) .refusals)

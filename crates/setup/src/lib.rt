@@ -7,7 +7,7 @@ ghost use Rattle.rules.specs.Kinds.{allowedBy, alsoAllowed, byteAllowed, kindOf
 ghost use Rattle.rules.specs.Setup.{allowedLength, enterAll, enterRecord, firstRecord, newNumber, newParent, objectEntered, objectRecord, readSetup};
 ghost use Rattle.rules.specs.Setup.{recordsOf, refusedSetup, renumbered, setupRecords, switchesEntered, switchesRecord, userEntered, userRecord, writeSetup};
 ghost use Rattle.setup.specs.Progress.{countAfter, fitsAfter, numberAfter, parentFitsIn, progressAfter};
-ghost use Rattle.setup.specs.Writing.{liveRecord, livesOnly, objectRecords, Stored, userRecords};
+ghost use Rattle.setup.specs.Writing.{facilityWith, liveRecord, livesOnly, objectRecords, Stored, userRecords};
 ghost use Rattle.state.specs.State.{allOff, blank, objectsFrom, usersFrom};
 ghost use Rattle.labels.specs.Decisions.{ask};
 use answers::SetupOutcome;
@@ -511,8 +511,116 @@ fn put_objects<'a>(
 }
 
 // All sections, one after the other, as far as they fit. Answers the length of the whole.
-fn put_sections(f: Facility, out: &mut [u8]) -> usize
-    ensures { λ x. ⌜ Stored (now (out .entry)) 0 (setupRecords f) (now (out .exit)) x ⌝ }
+fn put_sections<'a>(
+    out: &mut [u8],
+    switches: Switches,
+    users: u8,
+    clearances: &'a [u8],
+    roles: &'a [u8],
+    trusts: &'a [u8],
+    entered: u8,
+    lives: &'a [u8],
+    kinds: &'a [u8],
+    levels: &'a [u8],
+    categories: &'a [u8],
+    datatypes: &'a [u8],
+    flags: &'a [u8],
+    parents: &'a [u8],
+) -> usize
+    ensures { λ x. ⌜ Stored (now (out .entry)) 0
+        (setupRecords (facilityWith switches users (usersFrom (now (clearances .entry)) (now (roles .entry)) (now (trusts .entry))) entered
+        (objectsFrom (now (lives .entry)) (now (kinds .entry)) (now (levels .entry)) (now (categories .entry)) (now (datatypes .entry))
+        (now (flags .entry)) (now (parents .entry)))))
+        (now (out .exit)) x ⌝ }
+{
+    let first = switches_record(switches);
+    let second = put_record(out, 0, first);
+    let objects = put_users(out, second, clearances, roles, trusts, users);
+    put_objects(
+        out,
+        objects,
+        lives,
+        kinds,
+        levels,
+        categories,
+        datatypes,
+        flags,
+        parents,
+        entered,
+    )
+}
+
+// Writes the set-up of lent switches, users and objects into a lent buffer that holds it all; else the buffer stays as it is. A first pass over
+// none of the buffer tells the length.
+pub fn write_parts<'a>(
+    out: &mut [u8],
+    switches: Switches,
+    users: u8,
+    clearances: &'a [u8],
+    roles: &'a [u8],
+    trusts: &'a [u8],
+    entered: u8,
+    lives: &'a [u8],
+    kinds: &'a [u8],
+    levels: &'a [u8],
+    categories: &'a [u8],
+    datatypes: &'a [u8],
+    flags: &'a [u8],
+    parents: &'a [u8],
+) -> WriteOutcome
+    ensures { λ x. ⌜ x ≡ (writeSetup
+        (facilityWith switches users (usersFrom (now (clearances .entry)) (now (roles .entry)) (now (trusts .entry))) entered
+        (objectsFrom (now (lives .entry)) (now (kinds .entry)) (now (levels .entry)) (now (categories .entry)) (now (datatypes .entry))
+        (now (flags .entry)) (now (parents .entry))))
+        (now (out .entry))) .outcome ⌝ }
+    ensures { λ x. ⌜ now (out .exit) ≡ (writeSetup
+        (facilityWith switches users (usersFrom (now (clearances .entry)) (now (roles .entry)) (now (trusts .entry))) entered
+        (objectsFrom (now (lives .entry)) (now (kinds .entry)) (now (levels .entry)) (now (categories .entry)) (now (datatypes .entry))
+        (now (flags .entry)) (now (parents .entry))))
+        (now (out .entry))) .buffer ⌝ }
+{
+    let need = put_sections(
+        &mut out[..0],
+        switches,
+        users,
+        clearances,
+        roles,
+        trusts,
+        entered,
+        lives,
+        kinds,
+        levels,
+        categories,
+        datatypes,
+        flags,
+        parents,
+    );
+    if out.len() < need {
+        return WriteOutcome::NoRoom;
+    }
+    let length = put_sections(
+        out,
+        switches,
+        users,
+        clearances,
+        roles,
+        trusts,
+        entered,
+        lives,
+        kinds,
+        levels,
+        categories,
+        datatypes,
+        flags,
+        parents,
+    );
+    WriteOutcome::Written { length }
+}
+
+// Writes a facility's set-up.
+pub fn write_setup(f: Facility, out: &mut [u8]) -> WriteOutcome
+    ensures { λ x. ⌜ x ≡ (writeSetup f (now (out .entry))) .outcome ⌝ }
+    ensures { λ x. ⌜ now (out .exit) ≡ (writeSetup f (now (out .entry))) .buffer ⌝ }
 {
     let switches = Switches {
         mac: f.mac,
@@ -520,12 +628,14 @@ fn put_sections(f: Facility, out: &mut [u8]) -> usize
         sim: f.sim,
         ff: f.ff,
     };
-    let first = switches_record(switches);
-    let users = put_record(out, 0, first);
-    let objects = put_users(out, users, &f.clearances, &f.roles, &f.trusts, f.users);
-    put_objects(
+    write_parts(
         out,
-        objects,
+        switches,
+        f.users,
+        &f.clearances,
+        &f.roles,
+        &f.trusts,
+        f.entered,
         &f.lives,
         &f.kinds,
         &f.levels,
@@ -533,20 +643,5 @@ fn put_sections(f: Facility, out: &mut [u8]) -> usize
         &f.datatypes,
         &f.flags,
         &f.parents,
-        f.entered,
     )
-}
-
-// Writes a facility's set-up into a lent buffer that holds it all; else the buffer stays as it is. A first pass over none of the buffer
-// tells the length.
-pub fn write_setup(f: Facility, out: &mut [u8]) -> WriteOutcome
-    ensures { λ x. ⌜ x ≡ (writeSetup f (now (out .entry))) .outcome ⌝ }
-    ensures { λ x. ⌜ now (out .exit) ≡ (writeSetup f (now (out .entry))) .buffer ⌝ }
-{
-    let need = put_sections(f, &mut out[..0]);
-    if out.len() < need {
-        return WriteOutcome::NoRoom;
-    }
-    let length = put_sections(f, out);
-    WriteOutcome::Written { length }
 }

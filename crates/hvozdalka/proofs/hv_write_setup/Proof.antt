@@ -1,19 +1,15 @@
--- The result is `writingNumbers ((writeSetup f out) .outcome)`, and `out` becomes `(writeSetup f out) .buffer`.
+-- The numbers are those of what the writer came to.
 use Rattle.hvozdalka.proofs.hv_write_setup.Statement.{statement}
 use Rattle.hvozdalka.proofs.hv_write_setup.Tie as tie
-use Rattle.answers.specs.declared.WriteOutcome.the-variants.{Written, NoRoom}
+use mathlib.Core.Path.{_∙_, ap}
 use borrow.Author.Needs.{needs}
-use Rattle.hvozdalka.specs.Numbers.{writing-is}
+use Rattle.answers.specs.declared.WriteOutcome.{WriteOutcome}
+use Rattle.hvozdalka.specs.Numbers.{writingNumbers}
 
 returns : tie.Need-returns
 returns c =
-    let w = c .before .before .before .before .before .write-setup .ensures in
-    let o = c .before .written .given in
-    (writing-is _ _ (Written (o .0 .0)) (w .0) (o .1), w .1)
-
-returns-2 : tie.Need-returns-2
-returns-2 c = let w = c .before .before .before .before .write-setup .ensures in (writing-is _ _ NoRoom (w .0) (c .enum-told .given .1), w .1)
+    let w = c .before .before .before .write-setup .ensures in
+    (c .writing-numbers .ensures ∙ ap (λ (x : WriteOutcome). writingNumbers x) (w .0), w .1)
 
 pub hv-write-setup-spec : {M : Type 1} → statement M
-hv-write-setup-spec =
-    tie.close (tie.spec (λ c κs. search needs) (λ c. search needs) (λ c. search needs) (λ c. search needs) returns (λ c. search needs) returns-2)
+hv-write-setup-spec = tie.close (tie.spec (λ c κs. search needs) (λ c κs. search needs) (λ c. search needs) returns)

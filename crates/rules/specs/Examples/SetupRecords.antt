@@ -173,3 +173,21 @@ pub lent-buffer :
     ∷ []
 unfolding everything
 lent-buffer = refl
+
+-- the same of a set-up whose first object is deleted: it needs 16 bytes, and a buffer that holds the switches alone is untouched
+abbrev oneDeleted : Facility
+oneDeleted = dropObject (fresh (switches 1 0 1 ++ object 0 0 0 0 ++ object 3 255 255 1)) 0
+
+pub lent-for-live :
+    written (writeSetup oneDeleted (replicate 8 9))
+    ∷ written (writeSetup oneDeleted (replicate 15 9))
+    ∷ written (writeSetup oneDeleted (replicate 16 9))
+    ∷ written (writeSetup oneDeleted (replicate 17 9))
+    ∷ []
+    ≡ (18 ∷ 0 ∷ replicate 8 9)
+    ∷ (18 ∷ 0 ∷ replicate 15 9)
+    ∷ (0 ∷ 16 ∷ (switches 1 0 1 ++ object 3 255 255 1))
+    ∷ (0 ∷ 16 ∷ (switches 1 0 1 ++ object 3 255 255 1 ++ (9 ∷ [])))
+    ∷ []
+unfolding everything
+lent-for-live = refl

@@ -6,41 +6,43 @@ use mathlib.Core.Path.{subst}
 use mathlib.Core.List.{[], _∷_}
 use native.Mathlib.Omega.{arith}
 use borrow.Author.Needs.{needs}
-use Rattle.state.specs.State.{switchesOf, usersIn, userIn}
+use Rattle.state.specs.State.{blank, usersFrom, objectsFrom, userIn}
 use Rattle.rules.specs.declared.SetupRecord.{SetupRecord}
-use Rattle.rules.specs.Setup.{switchesRecord, userRecord, every, usersSection, objectsSection, setupRecords}
-use Rattle.setup.specs.Writing.{Stored}
+use Rattle.rules.specs.Setup.{switchesRecord, userRecord, every, setupRecords}
+use Rattle.setup.specs.Writing.{Stored, userRecords, objectRecords}
 use Rattle.setup.proofs.WritingLoop.{section-most, nothing, then}
 
 -- a byte counts the users
-few-users : (c : tie.After-put-record) → c .before .before .before .before .args .t1 .users ≤ 255
-few-users c = search (needs, c .before .before .before .before .good)
+few-users :
+    (c : tie.After-put-record)
+    → c .before .before .before .before .before .before .before .before .before .before .before .before .before .before .args .users ≤ 255
+few-users c = search (needs, c .before .before .before .before .before .before .before .before .before .before .before .before .before .before .good)
 
 put-objects-requires : tie.Need-put-objects-requires
 put-objects-requires c κs =
-    let args = c .before .before .before .before .before .before .before .before .before .before .before .before .before .before in
-    let users = args .before .before .before .before in
-    let first = users .before .before .before .before .before .before .before .before .before .before .before in
-    let f = first .before .before .before .before .args .t1 in
-    let h = section-most userRecord (f .users) every (userIn (usersIn f)) _ _ _ (users .put-users .result) (users .put-users .ensures) in
+    let users = c .before .before .before in
+    let first = users .before .before .before .before in
+    let a = first .before .before .before .before .before .before .before .before .before .before .before .before .before .before .args in
+    let us = usersFrom (a .clearances .now) (a .roles .now) (a .trusts .now) in
+    let h = section-most userRecord (a .users) every (userIn us) _ _ _ (users .put-users .result) (users .put-users .ensures) in
     let n = few-users first in
     omega (arith, first .put-record .ensures .place)
 
 returns : tie.Need-returns
-unfolding setupRecords
+unfolding setupRecords blank
 returns c =
     let objects = c .before .before in
-    let args = objects .before .before .before .before .before .before .before .before .before .before .before .before .before .before .before in
-    let users = args .before .before .before .before in
-    let first = users .before .before .before .before .before .before .before .before .before .before .before in
-    let a = first .before .before .before .before .args in
-    let f = a .t1 in
+    let users = objects .before .before .before .before in
+    let first = users .before .before .before .before in
+    let a = first .before .before .before .before .before .before .before .before .before .before .before .before .before .before .args in
     let o = a .out .now in
+    let us = usersFrom (a .clearances .now) (a .roles .now) (a .trusts .now) in
+    let os = objectsFrom (a .lives .now) (a .kinds .now) (a .levels .now) (a .categories .now) (a .datatypes .now) (a .flags .now) (a .parents .now) in
     let s = subst (λ (r : SetupRecord). Stored o 0 (r ∷ []) (first .put-record .last .0) (first .put-record .result))
     (first .before .before .switches-record .ensures) (first .put-record .ensures) in
-    then o _ _ 0 _ _ (switchesRecord (switchesOf f) ∷ []) _ s
-    (then _ _ _ _ _ _ (usersSection f) _ (users .put-users .ensures)
-    (then _ _ _ _ _ _ (objectsSection f) [] (objects .put-objects .ensures) (nothing _ _)))
+    then o _ _ 0 _ _ (switchesRecord (a .switches) ∷ []) _ s
+    (then _ _ _ _ _ _ (userRecords (a .users) us) _ (users .put-users .ensures)
+    (then _ _ _ _ _ _ (objectRecords (a .entered) os) [] (objects .put-objects .ensures) (nothing _ _)))
 
 pub put-sections-spec : {M : Type 1} → statement M
 put-sections-spec =
