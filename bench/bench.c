@@ -8,7 +8,7 @@
 
 #include "plain.h"
 
-enum { CALLS = 4096, WARM = 20, ROUNDS = 800, TRIALS = 400000 };
+enum { CALLS = 4096, WARM = 20, ROUNDS = 800, TRIALS = 400000, RAISED = 1000 };
 
 static uint64_t seed = 1;
 
@@ -65,6 +65,25 @@ static void random_call(uint8_t c[4])
     c[3] = (uint8_t)(random_below(40) ? random_below(4) : random_below(256));
 }
 
+/* A login, a set-level or a signal among few processes, the signal to one of the same level where there is one. */
+static void random_signal(const hv_facility *f, uint8_t c[4])
+{
+    uint8_t p = byte_below(4), q = byte_below(4), way = byte_below(6);
+    for (int k = 0; k < 4 && (f->runnings[q] != 1 || f->currents[q] != f->currents[p]); k++) q = (uint8_t)((q + 1) % 4);
+    if (f->runnings[p] != 1) memcpy(c, (uint8_t[4]){HV_LOGIN, p, 0, byte_below(4)}, 4);
+    else if (way == 0) memcpy(c, (uint8_t[4]){HV_SET_LEVEL, p, 0, byte_below(6)}, 4);
+    else if (way == 1) memcpy(c, (uint8_t[4]){HV_SET_LEVEL, p, 0, f->currents[byte_below(4)]}, 4);
+    else memcpy(c, (uint8_t[4]){HV_SEND_SIGNAL, p, q, 0}, 4);
+}
+
+/* Puts two processes to one level with a read mark below it, also with MAC off, where calls leave every level 0. */
+static void put_levels(hv_facility *f, uint8_t p, uint8_t q, uint8_t level)
+{
+    if (p >= HV_PROCESSES || q >= HV_PROCESSES || f->runnings[p] != 1 || f->runnings[q] != 1) return;
+    f->currents[p] = f->currents[q] = level;
+    f->readmarks[p] = f->readmarks[q] = level / 2;
+}
+
 static int same(const hv_facility *a, const hv_facility *b)
 {
     return memcmp(a, b, offsetof(hv_facility, opens) + sizeof a->opens) == 0 && memcmp(a->refusals, b->refusals, sizeof a->refusals) == 0
@@ -90,14 +109,14 @@ static int same_flags(const hv_facility *plain, const hv_facility *proved, uint8
     return hv_effective_flags(*proved, t) == plain_effective_flags(plain, t);
 }
 
-/* Random calls on random set-ups: outcome, state, query, flags and set-up written out are the same. Now and then an object is put open for
- * both at a process that runs, so that a write meets a read-only one. */
+/* Random calls on random set-ups, many of them signals: outcome, state, query, flags and set-up written out are the same. Now and then an object is
+ * put open for both at a process that runs, so that a write meets a read-only one, or sender and receiver of a signal are put to one level. */
 static int agree(void)
 {
     static hv_facility plain, proved;
-    long accepted = 0;
-    for (long k = 0, left = 0; k < TRIALS; k++, left--) {
-        if (left == 0) {
+    long accepted = 0, signals = 0, raised = 0, left = 0;
+    for (long k = 0, rest = 0; k < TRIALS; k++, rest--) {
+        if (rest == 0) {
             uint8_t s[HV_SETUP_MOST];
             uint16_t index;
             if (k > 0 && !same_written(&plain, &proved)) return printf("set-ups written out after calls differ\n"), 0;
@@ -108,12 +127,19 @@ static int agree(void)
             proved = r.facility;
             if (r.number != number || r.index != index || !same(&plain, &proved)) return printf("set-ups differ\n"), 0;
             if (!same_written(&plain, &proved)) return printf("set-ups written out differ\n"), 0;
-            left = 400;
+            rest = 400;
         }
         uint8_t c[4];
-        random_call(c);
+        if (random_below(6)) random_call(c);
+        else random_signal(&plain, c);
         if (random_below(8) == 0 && c[1] < HV_PROCESSES && c[2] < HV_OBJECTS && plain.runnings[c[1]] == 1 && plain.lives[c[2]] == 1)
             plain.opens[c[1] * HV_OBJECTS + c[2]] = proved.opens[c[1] * HV_OBJECTS + c[2]] = HV_OPEN_READING | HV_OPEN_WRITING;
+        if (c[0] == HV_SEND_SIGNAL && random_below(8) == 0) {
+            uint8_t level = byte_below(6);
+            put_levels(&plain, c[1], c[2], level);
+            put_levels(&proved, c[1], c[2], level);
+        }
+        uint8_t receiver = c[2] % HV_PROCESSES, mark = plain.readmarks[receiver];
         hv_outcome q = hv_query(proved, c[0], c[1], c[2], c[3]);
         hv_enforced e = hv_enforce(proved, c[0], c[1], c[2], c[3]);
         hv_facility place = proved;
@@ -124,12 +150,19 @@ static int agree(void)
         if (memcmp(&o, &qa, sizeof o) != 0 || memcmp(&o, &ea, sizeof o) != 0 || !same(&plain, &place))
             return printf("call %d %d %d %d in place differs: %d, %d and %d\n", c[0], c[1], c[2], c[3], o.number, qa.number, ea.number), 0;
         accepted += o.number == 0;
+        if (o.number == 0 && c[0] == HV_SEND_SIGNAL) {
+            signals++;
+            raised += plain.readmarks[receiver] > mark;
+            left += plain.readmarks[receiver] < plain.currents[receiver];
+        }
         if (memcmp(&o, &e.outcome, sizeof o) != 0 || memcmp(&o, &q, sizeof o) != 0 || !same(&plain, &proved))
             return printf("call %d %d %d %d differs: %d and %d\n", c[0], c[1], c[2], c[3], o.number, e.outcome.number), 0;
         if (!same_flags(&plain, &proved, c[2]) || (o.number == 0 && !same_flags(&plain, &proved, o.object)))
             return printf("flags after call %d %d %d %d differ\n", c[0], c[1], c[2], c[3]), 0;
     }
     printf("agreement\t%d\t%ld\n", TRIALS, accepted);
+    printf("signals\t%ld\t%ld\t%ld\n", signals, raised, left);
+    if (raised < RAISED || left < RAISED) return printf("too few signals that raise a mark, or leave one below the level\n"), 0;
     return 1;
 }
 

@@ -159,6 +159,11 @@ hv_outcome plain_query(const hv_facility *f, uint8_t request, uint8_t process, u
     return judge(f, request, process, target, extra, &m);
 }
 
+static inline int trusted_owner(const hv_facility *f, uint8_t p)
+{
+    return f->owners[p] < HV_USERS && f->trusts[f->owners[p]] == 1;
+}
+
 static void store(hv_facility *f, uint8_t p, const struct move *m)
 {
     f->currents[p] = m->current;
@@ -195,6 +200,9 @@ static void act(hv_facility *f, uint8_t request, uint8_t p, uint8_t t, uint8_t e
     case HV_WRITE_OPEN: row[t] |= HV_OPEN_WRITING; return;
     case HV_READ_WRITE_OPEN: row[t] |= HV_OPEN_READING | HV_OPEN_WRITING; return;
     case HV_CLOSE: row[t] = 0; return;
+    case HV_SEND_SIGNAL:
+        if (f->mac == 1 && !trusted_owner(f, t)) f->readmarks[t] = f->currents[t];
+        return;
     case HV_DELETE:
         f->lives[t] = 0;
         for (int q = 0; q < HV_PROCESSES; q++) f->opens[q * HV_OBJECTS + t] = 0;

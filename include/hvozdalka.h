@@ -13,6 +13,11 @@
  * A facility is a value: hv_enforce takes one and returns the next. hv_enforce_at changes one where it is, which is faster; it is proved
  * to do the same.
  *
+ * With a signal (HV_SEND_SIGNAL) the desktop may send a value of four bytes, outside the call's bytes: only after enforce returned HV_ACCEPTED (a
+ * query permits nothing), to process t of that call, once. After any other number nothing may be sent. The receiver then counts as having read what
+ * the sender has: it holds the sender's matter, and with MAC on its read mark is its current level, unless its owner is trusted. What else passes
+ * from one process to another is in no account here, so the desktop must not let it pass.
+ *
  * Bytes are passed as a pointer and a length. With length 0 the pointer may be anything but null; `out` must not overlap other arguments.
  */
 #ifndef HVOZDALKA_H
@@ -54,7 +59,7 @@ enum hv_request {
     HV_READ_OPEN = 13,
     HV_READ_WRITE_OPEN = 14,
     HV_SEARCH = 15,
-    HV_SEND_SIGNAL = 16,             /* t is a process */
+    HV_SEND_SIGNAL = 16,             /* t is the receiver, a process; four bytes may go with it once it is accepted (above) */
     HV_SET_LEVEL = 17,               /* e is the level */
     HV_TERMINATE = 18,
     HV_WRITE = 19,
@@ -164,7 +169,8 @@ hv_writing hv_write_setup_at(const hv_facility *f, uint8_t *out, size_t length);
 hv_outcome hv_query(hv_facility f, uint8_t request, uint8_t process, uint8_t target, uint8_t extra);
 
 /* A call: the facility after it, and what it came to. A refused call changes nothing but, with 12 and 13, the counter of refusals of the user
- * who owns the calling process. [enforce, rules/Calls] */
+ * who owns the calling process; a refused signal carries nothing, and nothing may be sent with it. An accepted signal changes at most the read mark
+ * of process `target`, also where it is `process` itself. [enforce, rules/Calls] */
 hv_enforced hv_enforce(hv_facility f, uint8_t request, uint8_t process, uint8_t target, uint8_t extra);
 
 /* The same of a facility where it is, without a copy. After hv_enforce_at the bytes are those of the facility after the call, and the six
@@ -175,7 +181,8 @@ hv_outcome hv_enforce_at(hv_facility *f, uint8_t request, uint8_t process, uint8
 /* The facility of a set-up after calls of four bytes each; one to three left-over bytes are no call. [replayed, history/Replayed] */
 hv_facility hv_replay(const uint8_t *setup, size_t setup_length, const uint8_t *calls, size_t calls_length);
 
-/* Whether object x holds the matter of object c after the calls. [holds, rules/Matter] */
+/* Whether object x holds the matter of object c after the calls. An accepted signal carries: its receiver holds what it held and what the sender
+ * holds, with MAC on or off, whoever owns them, and what it writes later holds it too. [holds, rules/Matter] */
 bool hv_holds(const uint8_t *setup, size_t setup_length, const uint8_t *calls, size_t calls_length, uint8_t x, uint8_t c);
 
 /* The lines that the run program prints for a block of calls, the first of which has index `first`, stored at the front of `out`, and the

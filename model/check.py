@@ -8,6 +8,7 @@ import tempfile
 
 import model
 import run
+import vectors
 import words
 from model import (CLONE, CLOSE, CREATE, DELETE, EXECUTE, LOGIN, READ, READ_OPEN,
                    READ_WRITE_OPEN, SEND_SIGNAL, SET_LEVEL, TERMINATE,
@@ -421,5 +422,177 @@ account = matter(TREE, [IN, (9, 0, 1, 0), (CREATE, 0, 0, 1), (0, 0, 2, 0),
 check((account.kinds, account.object_sets, account.process_sets[0]),
       ([1, 3, 2, 1], [{0, 1}, {1}, {1, 2}, {3}], set()),
       "status read, create in a directory, alter, delete, login")
+
+# --- Ticket 4: signals with a value -----------------------------------------
+
+# Users of clearance 15, untrusted (0) and trusted (1); files of levels 0 to 3 have the numbers 0 to 3, channels of levels 0 to 3 the numbers 4 to 7.
+SIGNALS = switches(1, 0, 0) + user(15) + user(15, 0, 1) + b"".join(thing(kind, n) for kind in (0, 2) for n in range(4))
+
+
+def follow(setup, *calls):
+    """The numbers of the calls, and the facility and the account after them."""
+    _, _, facility = model.read_setup(setup)
+    account = model.Account(setup)
+    numbers = []
+    for call in calls:
+        numbers.append(model.enforce(facility, call).number)
+        account.note(call, numbers[-1] == 0)
+    return numbers, facility, account
+
+
+def levels(facility, p):
+    process = facility.processes[p]
+    return process.current, process.read_mark, process.write_mark, process.automatic
+
+
+def has_read(p, level, owner=0):
+    """Login, and the file of that level read."""
+    return [(LOGIN, p, 0, owner), (READ_OPEN, p, level, 0), (READ, p, level, 0)]
+
+
+def at_level(p, level, owner=0):
+    """Login, and a level set, with nothing read."""
+    return [(LOGIN, p, 0, owner), (SET_LEVEL, p, 0, level)]
+
+
+SIGNAL = (SEND_SIGNAL, 0, 1, 0)
+# an untrusted receiver's read mark becomes its current level, and it gains the sender's matter; the sender stays
+READ_AND_SENT = [*has_read(0, 2), *at_level(1, 2), SIGNAL]
+numbers, facility, account = follow(SIGNALS, *READ_AND_SENT[:-1])
+check((numbers[-1], levels(facility, 1), account.process_sets[:2]), (0, (2, 0, 15, False), [{2}, set()]), "before the signal")
+numbers, facility, account = follow(SIGNALS, *READ_AND_SENT)
+check((numbers[-1], levels(facility, 0), levels(facility, 1)), (0, (2, 2, 15, True), (2, 2, 15, False)), "the receiver is raised")
+check((account.process_sets, account.object_sets), ([{2}, {2}] + [set()] * 30, [{n} for n in range(8)]), "the receiver gains the sender's matter")
+check(facility.refusals, [0] * 16, "an accepted signal counts nothing")
+for level in range(4):
+    for last, number in (((SET_LEVEL, 1, 0, level), 0 if level >= 2 else 12), ((WRITE_OPEN, 1, level, 0), 0 if level == 2 else 12)):
+        check(answers(SIGNALS, READ_AND_SENT, last)[0], number, "the receiver after the signal")
+check(answers(SIGNALS, READ_AND_SENT[:-1], (SET_LEVEL, 1, 0, 0)), YES, "without the signal")
+# a level that was reached by a write, automatic on
+numbers, facility, _ = follow(SIGNALS, *has_read(0, 2), (LOGIN, 1, 0, 0), (WRITE_OPEN, 1, 2, 0), SIGNAL, (WRITE_OPEN, 1, 1, 0), (READ_OPEN, 1, 2, 0))
+check((numbers[-3:], levels(facility, 1)), ([0, 12, 0], (2, 2, 2, True)), "a receiver that has written")
+# upward and downward: refused, nothing changes but the counter
+for sent, received in (((0, 1), (1, 2)), ((0, 3), (1, 1))):
+    calls = [*has_read(*sent), *at_level(*received), *has_read(3, 2)]
+    _, facility, account = follow(SIGNALS, *calls)
+    before = everything(facility)
+    number = model.enforce(facility, SIGNAL).number
+    check((number, everything(facility)[1:], facility.refusals), (12, before[1:], [1] + [0] * 15), "a refused signal changes nothing but the counter")
+    check(follow(SIGNALS, *calls, SIGNAL)[2].process_sets, account.process_sets, "a refused signal carries nothing")
+for last, number in (((SEND_SIGNAL, 0, 32, 0), 2), ((SEND_SIGNAL, 32, 1, 0), 2), ((SEND_SIGNAL, 0, 2, 0), 3), ((SEND_SIGNAL, 2, 1, 0), 3)):
+    numbers, facility, account = follow(SIGNALS, *READ_AND_SENT[:-1], last)
+    check((numbers[-1], levels(facility, 1), account.process_sets, facility.refusals), (number, (2, 0, 15, False), [{2}] + [set()] * 31, [0] * 16),
+          "a signal from or to no running process")
+# a trusted receiver gains the matter, and is not raised
+numbers, facility, account = follow(SIGNALS, *has_read(0, 2), *at_level(1, 2, 1), SIGNAL)
+check((numbers[-1], levels(facility, 1), account.process_sets[1]), (0, (2, 0, 15, False), {2}), "a trusted receiver")
+# a trusted sender: at any levels, and the mark becomes the receiver's level
+for level in range(4):
+    numbers, facility, account = follow(SIGNALS, *has_read(0, 3, 1), *at_level(1, level), SIGNAL)
+    check((numbers[-1], levels(facility, 0), levels(facility, 1), account.process_sets[1]), (0, (0, 0, 15, True), (level, level, 15, False), {3}),
+          "a trusted sender")
+# an untrusted sender needs equal levels, also where the receiver is trusted
+check(follow(SIGNALS, *has_read(0, 3), *at_level(1, 2, 1), SIGNAL)[0][-1], 12, "an untrusted sender, a trusted receiver")
+# to itself: reading 20
+numbers, facility, account = follow(SIGNALS, *at_level(0, 2), (SEND_SIGNAL, 0, 0, 0), (SET_LEVEL, 0, 0, 1))
+check((numbers, levels(facility, 0), account.process_sets[0]), ([0, 0, 0, 12], (2, 2, 15, False), set()), "a signal to itself")
+check(levels(follow(SIGNALS, *at_level(0, 2, 1), (SEND_SIGNAL, 0, 0, 0))[1], 0), (2, 0, 15, False), "a trusted process's signal to itself")
+# the set is joined, not replaced, and the two sets do not stay one
+JOINED = [*has_read(0, 1), (READ_OPEN, 0, 2, 0), (READ, 0, 2, 0), *has_read(1, 0), (SET_LEVEL, 1, 0, 2)]
+account = follow(SIGNALS, *JOINED, SIGNAL)[2]
+check(account.process_sets, [{1, 2}, {0, 1, 2}] + [set()] * 30, "the set is joined")
+account = follow(SIGNALS, *JOINED, SIGNAL, (READ_OPEN, 0, 3, 0), (READ, 0, 3, 0))[2]
+check(account.process_sets[:2], [{1, 2, 3}, {0, 1, 2}], "the sender reads on")
+account = follow(SIGNALS, *JOINED, (SEND_SIGNAL, 1, 0, 0))[2]
+check(account.process_sets[:2], [{0, 1, 2}, {0}], "the other way")
+account = follow(SIGNALS, *READ_AND_SENT, (READ_OPEN, 1, 1, 0), (READ, 1, 1, 0))[2]
+check(account.process_sets[:2], [{2}, {1, 2}], "the receiver reads on")
+account = follow(SIGNALS, *READ_AND_SENT, (CLONE, 1, 2, 0), (LOGIN, 3, 0, 0), (SET_LEVEL, 3, 0, 2), (SEND_SIGNAL, 2, 3, 0))[2]
+check(account.process_sets[:4], [{2}] * 4, "carried on, through a clone and a second signal")
+numbers, facility, account = follow(SIGNALS, *READ_AND_SENT, (TERMINATE, 1, 0, 0), (LOGIN, 1, 0, 0), (SEND_SIGNAL, 0, 1, 0))
+check((numbers[-1], levels(facility, 1), account.process_sets[1]), (12, (0, 0, 15, True), set()), "a new login in the receiver's place")
+# MAC off: no mark is raised, and the matter is carried all the same. A list with MAC off leaves every level 0, so it is put off here after the levels are set.
+numbers, _, account = follow(switches(0, 1, 1, 1) + SIGNALS[8:], *has_read(0, 2), (LOGIN, 1, 0, 0), SIGNAL)
+check((numbers, account.process_sets[1]), ([0] * 5, {2}), "MAC off")
+_, facility, _ = follow(SIGNALS, *READ_AND_SENT[:-1])
+facility.mac_on = False
+check((tuple(model.enforce(facility, SIGNAL)), levels(facility, 1)), ((0, 0, 0, 0, 0, 255, 0), (2, 0, 15, False)), "MAC off, not raised")
+# every case: switch, both owners, both levels, the receiver's read mark, to another and to itself
+for case in range(2 * 2 * 2 * 3 * 3 * 3 * 2):
+    mac, p_trusted, t_trusted, p_current, t_current, mark, itself = (case // n % m for n, m in (
+        (1, 2), (2, 2), (4, 2), (8, 3), (24, 3), (72, 3), (216, 2)))
+    if mark > t_current:
+        continue
+    _, facility, _ = follow(SIGNALS, (LOGIN, 0, 0, p_trusted), (LOGIN, 1, 0, t_trusted))
+    facility.mac_on = bool(mac)
+    facility.processes[0].current = p_current
+    facility.processes[1].current, facility.processes[1].read_mark = t_current, mark
+    sender, trusted = (1, t_trusted) if itself else (0, p_trusted)
+    granted = trusted or itself or p_current == t_current
+    raised = granted and mac and not t_trusted
+    before = everything(facility)
+    check(tuple(model.query(facility, (SEND_SIGNAL, sender, 1, 0)))[0], 0 if granted or not mac else 12, "signal")
+    check(everything(facility), before, "query of a signal")
+    model.enforce(facility, (SEND_SIGNAL, sender, 1, 0))
+    check((levels(facility, 0), levels(facility, 1)),
+          ((p_current, 0, 15, True), (t_current, t_current if raised else mark, 15, True)), "levels after a signal")
+
+# Demand 3 with a channel as A: readings.md, the lists of its second half. B of each kind, and how it is written.
+WRITES = {0: [WRITE_OPEN, WRITE], 1: [WRITE], 2: [READ_WRITE_OPEN, WRITE], 3: [10]}
+for a in range(4):
+    for b in range(4):
+        for kind, writes in WRITES.items():
+            pair = switches(1, 0, 0) + user(3) + thing(2, a) + thing(kind, b)
+            carried = [(LOGIN, 1, 0, 0), (SET_LEVEL, 1, 0, a), (LOGIN, 0, 0, 0), (READ_WRITE_OPEN, 0, 0, 0), (READ, 0, 0, 0), SIGNAL]
+            rest = [(SET_LEVEL, 1, 0, b)] + [(request, 1, 1, 0) for request in writes]
+            numbers, _, account = follow(pair, *carried, *rest)
+            check((numbers[:len(carried)], account.object_holds(1, 0)), ([0] * len(carried), a <= b), "a channel's matter by a signal")
+            check(numbers[len(carried):] == [0] * len(rest), a <= b, "the receiver writes")
+            account = follow(pair, *carried[:-1], *rest)[2]
+            check(account.object_holds(1, 0), False, "without the signal")
+            # refused, since the receiver went on before it was sent
+            if a < b:
+                numbers, _, account = follow(pair, *carried[:-1], rest[0], SIGNAL, *rest[1:])
+                check((numbers[len(carried)], account.object_holds(1, 0)), (12, False), "a refused signal carries nothing to B")
+
+def held_pairs(account):
+    return {(x, c) for x, held in enumerate(account.object_sets) for c in held if c != x}
+
+
+# Demand 3's first half: lists rich in signals, no trusted login; what an object holds is of no higher level.
+by_signals = 0
+for _ in range(60):
+    setup = switches(1, 0, 0) + user(3) + user(2) + b"".join(thing(kind, rng.randrange(4)) for kind in (0, 0, 0, 1, 2, 2, 3))
+    caller = vectors.Caller(rng, setup)
+    caller.go_with_signals(150)
+    _, facility, account = follow(setup, *caller.calls)
+    levels_of = [obj.level for obj in facility.objects]
+    check([pair for pair in held_pairs(account) if levels_of[pair[1]] > levels_of[pair[0]]], [], "only when its level is at least the other's")
+    without = follow(setup, *(call for call in caller.calls if call[0] != SEND_SIGNAL))[2]
+    by_signals += len(held_pairs(account) - held_pairs(without))
+assert by_signals > 50, by_signals
+
+# in words
+TOLD = b"".join(map(bytes, [*READ_AND_SENT, (SEND_SIGNAL, 1, 0, 0), (SEND_SIGNAL, 0, 2, 0), (SEND_SIGNAL, 0, 200, 0), (SET_LEVEL, 1, 0, 3), SIGNAL]))
+SENDER = "user 0, clearance 15, current 2, marks 2 to 15"
+SENT = "MAC granted, FC not cared, SIM not cared, FF not cared, combined granted: 0 accepted"
+ASIDE = "MAC not cared, FC not cared, SIM not cared, FF not cared, combined not cared: "
+check(words.tell(SIGNALS, TOLD)[5:9] + words.tell(SIGNALS, TOLD)[10:],
+      ["6 process 0 (%s): send-signal process 1 (user 0, clearance 15, current 2, marks 0 to 15): %s; then %s; process 1 then %s" % (
+          SENDER, SENT, SENDER, SENDER),
+       "7 process 1 (%s): send-signal process 0 (%s): %s; then %s; process 0 then %s" % (SENDER, SENDER, SENT, SENDER, SENDER),
+       "8 process 0 (%s): send-signal process 2 (not running): %s3 process does not run; then %s; process 2 then not running" % (
+           SENDER, ASIDE, SENDER),
+       "9 process 0 (%s): send-signal process 200 (not running): %s2 no such process number; then %s; process 200 then not running" % (
+           SENDER, ASIDE, SENDER),
+       "11 process 0 (%s): send-signal process 1 (user 0, clearance 15, current 3, marks 2 to 15): "
+       "MAC not granted, FC not cared, SIM not cared, FF not cared, combined not granted: 12 not granted; then %s; "
+       "process 1 then user 0, clearance 15, current 3, marks 2 to 15; refusals of user 0: 1" % (SENDER, SENDER)], "signals in words")
+check(words.tell(SIGNALS, TOLD[:20] + bytes([SEND_SIGNAL, 1, 1, 0]))[5],
+      "6 process 1 (user 0, clearance 15, current 2, marks 0 to 15): send-signal process 1 (user 0, clearance 15, current 2, marks 0 to 15): "
+      "%s; then %s; process 1 then %s" % (SENT, SENDER, SENDER), "a signal to itself in words")
+check(words.tell(SIGNALS, bytes([LOGIN, 0, 0, 0, CLONE, 0, 5, 0]))[1],
+      "2 process 0 (user 0, clearance 15, current 0, marks 0 to 15): clone process 5: %s; then user 0, clearance 15, current 0, marks 0 to 15" % SENT,
+      "clone in words")
 
 print("model: %d checks passed" % passed)

@@ -1,7 +1,8 @@
 """Draws a run as an SVG: python3 -B model/draw.py SETUP_FILE < CALLS > PICTURE.svg
 
 One lane for each process that runs: its current level as a line, with the band from read mark to write mark, over the calls. A call is
-marked in the lane of the process that made it: a dot where it was accepted, a cross with its number where it was refused.
+marked in the lane of the process that made it: a dot where it was accepted, a cross with its number where it was refused. From an accepted
+signal a dashed line goes to the receiver, whose read mark it may have raised.
 """
 
 import sys
@@ -73,10 +74,12 @@ class Picture:
         return "\n".join(self.parts) + "\n"
 
     def legend(self):
-        self.add('<g fill="#333"><rect x="%d" y="12" width="22" height="12" fill="#cfe0f3"/><text x="%d" y="22">from read mark to write mark</text>', LEFT, LEFT + 28)
+        self.add('<g fill="#333"><rect x="%d" y="12" width="22" height="12" fill="#cfe0f3"/><text x="%d" y="22">from read mark to write mark</text>',
+                 LEFT, LEFT + 28)
         self.add('<path d="M%d 18h22" stroke="#15467a" stroke-width="3"/><text x="%d" y="22">current level</text>', LEFT + 230, LEFT + 258)
         self.add('<circle cx="%d" cy="18" r="4" fill="#15467a"/><text x="%d" y="22">accepted</text>', LEFT + 360, LEFT + 370)
-        self.add('<path d="M%d 13l10 10m0 -10l-10 10" stroke="#b3261e" stroke-width="3"/><text x="%d" y="22">refused, with its number</text></g>', LEFT + 445, LEFT + 462)
+        self.add('<path d="M%d 13l10 10m0 -10l-10 10" stroke="#b3261e" stroke-width="3"/><text x="%d" y="22">refused, with its number</text></g>',
+                 LEFT + 445, LEFT + 462)
 
     def frame(self, p):
         y, end = self.lane(p), self.x(len(self.made)) + STEP
@@ -128,13 +131,16 @@ class Picture:
         level = (after or before or (0, 0, 0, 0))[1]
         y = self.y(p, level)
         self.add('<g><title>%d: %s: %d %s</title>', k + 1, escape(text), number, escape(words.NUMBERS[number]))
+        if number == 0 and call[0] == model.SEND_SIGNAL:
+            self.add('<path d="M%.1f %.1fV%.1f" stroke="#15467a" stroke-dasharray="4 3"/>', at, y, self.y(call[2], self.seen[k + 1][call[2]][2]))
         if number == 0:
             self.add('<circle cx="%.1f" cy="%.1f" r="5" fill="#15467a"/>', at, y)
         else:
-            self.add('<path d="M%.1f %.1fl12 12m0 -12l-12 12" stroke="#b3261e" stroke-width="3"/><text x="%.1f" y="%.1f" fill="#b3261e" font-size="11" font-weight="bold">%d</text>',
-                     at - 6, y - 6, at + 8, y - 7, number)
+            self.add('<path d="M%.1f %.1fl12 12m0 -12l-12 12" stroke="#b3261e" stroke-width="3"/>'
+                     '<text x="%.1f" y="%.1f" fill="#b3261e" font-size="11" font-weight="bold">%d</text>', at - 6, y - 6, at + 8, y - 7, number)
         request = words.word(words.REQUESTS, call[0], "?")
-        self.add('<text x="%.1f" y="%.1f" text-anchor="middle" fill="#333" font-size="9">%s</text></g>', at, self.lane(p) + LANE + 15 + 10 * (k % 2), escape(request))
+        self.add('<text x="%.1f" y="%.1f" text-anchor="middle" fill="#333" font-size="9">%s</text></g>', at, self.lane(p) + LANE + 15 + 10 * (k % 2),
+                 escape(request))
 
 
 def main():

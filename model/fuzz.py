@@ -1,7 +1,8 @@
 """Compares the run program, and the run in words, with the model: python3 -B model/fuzz.py SEED CALLS
 
 Fresh set-ups and lists of calls from the seed, until CALLS calls were made: those of vectors.py, among them set-ups full of parents, with
-chains as deep as 127 directories, creates at every depth and deleted directories; the same with set-ups and calls damaged, cut short or
+chains as deep as 127 directories, creates at every depth and deleted directories, and lists rich in signals, between windows at one level and
+at others, of trusted owners too, to itself, with what channels hold carried on; the same with set-ups and calls damaged, cut short or
 made longer, and lists of random bytes. The programs are target/bin/run and target/bin/run_words (`rt check run
 run_words` builds them). Then the hostile inputs: no `setup.bin`, a folder of that name, one that is empty, cut, too long or unreadable,
 no calls, and an output that nobody reads. Ends with the number of comparisons, or at the first difference, which it leaves in a folder.
@@ -20,7 +21,8 @@ import words
 
 ROOT = os.path.join(os.path.dirname(os.path.abspath(__file__)), "..")
 RUN = os.path.abspath(os.path.join(ROOT, "target", "bin", "run"))
-TREES = 0.4                   # the share of set-ups full of parents
+TREES = 0.3                   # the share of set-ups full of parents
+SIGNALS = 0.3                 # the share of lists rich in signals
 WORDS = os.path.abspath(os.path.join(ROOT, "target", "bin", "run_words"))
 
 
@@ -38,11 +40,14 @@ def place(folder, setup):
 
 
 def compare(folder, setup, calls, in_words):
+    """Gives how many signals were accepted."""
     place(folder, setup)
-    expected = text(run.run(setup, calls)[0])
-    same(folder, calls, output(RUN, folder, calls), expected)
+    lines = run.run(setup, calls)[0]
+    same(folder, calls, output(RUN, folder, calls), text(lines))
     if in_words:
         same(folder, calls, output(WORDS, folder, calls), text(words.tell(setup, calls)))
+    fields = [line.split() for line in lines]
+    return sum(1 for line in fields if line[1:2] == ["16"] and line[5:6] == ["0"])
 
 
 def same(folder, calls, got, expected):
@@ -69,11 +74,20 @@ def damage(rng, data):
     return bytes(data)
 
 
+def one_case(rng):
+    chance = rng.random()
+    if chance < TREES:
+        return vectors.tree_case(rng, rng.randrange(48))
+    if chance < TREES + SIGNALS:
+        return vectors.signal_case(rng, rng.randrange(48))
+    return vectors.some_case(rng)
+
+
 def cases(rng):
     """Cases without end: a set-up and calls."""
     while True:
         for _ in range(60):
-            setup, calls = vectors.tree_case(rng, rng.randrange(48)) if rng.random() < TREES else vectors.some_case(rng)
+            setup, calls = one_case(rng)
             yield setup, calls
             yield setup, damage(rng, calls)
             if rng.random() < 0.3:
@@ -127,19 +141,19 @@ def hostile(folder):
 def main():
     seed, most = int(sys.argv[1]), int(sys.argv[2])
     rng = random.Random(seed)
-    begun, made, compared, told = time.time(), 0, 0, 0
+    begun, made, compared, told, signals = time.time(), 0, 0, 0, 0
     folder = tempfile.mkdtemp(prefix="fuzz-")
     for setup, calls in cases(rng):
         in_words = rng.random() < 0.2
-        compare(folder, setup, calls, in_words)
+        signals += compare(folder, setup, calls, in_words)
         compared += 1
         told += in_words
         made += len(calls) // 4
         if made >= most:
             break
     tries = hostile(folder)
-    print("seed %d: %d calls in %d lists, %d of them in words too, %d hostile inputs; none differs; %.0f s" % (
-        seed, made, compared, told, tries, time.time() - begun))
+    print("seed %d: %d calls in %d lists, %d of them in words too, %d signals accepted, %d hostile inputs; none differs; %.0f s" % (
+        seed, made, compared, told, signals, tries, time.time() - begun))
 
 
 if __name__ == "__main__":

@@ -338,8 +338,9 @@ def combine(a, b):
 
 
 def mac_answer(facility, request, p, t, e):
-    """MAC's answer, and the process as its effect leaves it (a copy, or None
-    where no level, mark or flag changes)."""
+    """MAC's answer, and the calling process as its effect leaves it (a copy, or
+    None where no level, mark or flag of it changes; a signal's effect is on the
+    receiver, in enforce)."""
     if not facility.mac_on:
         return NOT_CARED, None
     level = None
@@ -503,6 +504,11 @@ def enforce(facility, call):
         processes[p] = Process(e)
     elif request == CLONE:
         processes[t] = processes[p].copy()
+    elif request == SEND_SIGNAL:
+        # "with MAC on an untrusted receiver's read mark becomes its current
+        # level": the receiver's owner; reading 20: p itself too
+        if facility.mac_on and not facility.users[processes[t].owner].trusted:
+            processes[t].read_mark = processes[t].current
     elif request == TERMINATE:
         processes[p] = None
     elif request == CREATE:
@@ -555,6 +561,9 @@ class Account:
             self.process_sets[p] = set()
         elif request == CLONE:
             self.process_sets[t] = set(self.process_sets[p])
+        elif request == SEND_SIGNAL:
+            # "the receiver gains the sender's matter"
+            self.process_sets[t] |= self.process_sets[p]
         elif request == CREATE:
             self.object_sets.append({len(self.kinds)})
             self.kinds.append(e)

@@ -1,20 +1,20 @@
 """The story of docs/LEVELS.md: python3 -B model/story.py FOLDER writes FOLDER/data/setup.bin and FOLDER/stdin.
 
 Two windows of one user, the restricted hull lines and the open yard folder; then a clone, a new login and a user of a lower clearance; then,
-in a third window of the first user, directories that flags shield.
+in a third window of the first user, directories that flags shield; then a window that is signalled by one that may have read.
 """
 
 import os
 import sys
 
-from model import (ADD_INHERITED, CLONE, CREATE, DELETE, DIRECTORY, EXECUTE, FILE, LOGIN, NO_EXECUTE, READ_ONLY, READ_OPEN, SET_LEVEL, TERMINATE,
-                   WRITE, WRITE_OPEN)
+from model import (ADD_INHERITED, CLONE, CREATE, DELETE, DIRECTORY, EXECUTE, FILE, LOGIN, NO_EXECUTE, READ_ONLY, READ_OPEN, SEND_SIGNAL, SET_LEVEL,
+                   TERMINATE, WRITE, WRITE_OPEN)
 from records import object_record, switches_record, user_record
 
 DESIGNER, FITTER = 0, 1
 YARD_FOLDER, YARD_NOTES, HULL_LINES = 0, 1, 2
 RELEASED_DRAWINGS, RELEASED_SHEET, MEASURING_TOOLS, RULER, OWN_RULER, NEW_RULER = 3, 4, 5, 6, 7, 8
-LEFT, RIGHT, COPY, OTHER, SHIELD = 0, 1, 2, 3, 4
+LEFT, RIGHT, COPY, OTHER, SHIELD, RECEIVER = 0, 1, 2, 3, 4, 5
 
 SETUP = (switches_record(1, 0, 0, 1)
          + user_record(3, 0, 0) + user_record(1, 0, 0)
@@ -54,6 +54,14 @@ CALLS = [
     (DELETE, SHIELD, MEASURING_TOOLS, 0),
     (EXECUTE, SHIELD, RULER, 0),                 # a deleted parent counts as none
     (EXECUTE, SHIELD, NEW_RULER, 0),
+    (LOGIN, RECEIVER, 0, DESIGNER),
+    (SET_LEVEL, RECEIVER, 0, 3),
+    (SET_LEVEL, RECEIVER, 0, 0),                 # it has read nothing
+    (SEND_SIGNAL, COPY, RECEIVER, 0),            # from level 3 to level 0
+    (SET_LEVEL, RECEIVER, 0, 3),
+    (SEND_SIGNAL, COPY, RECEIVER, 0),
+    (SET_LEVEL, RECEIVER, 0, 0),
+    (WRITE_OPEN, RECEIVER, YARD_NOTES, 0),
 ]
 
 

@@ -11,9 +11,9 @@ def users(rng):
     return user_record(2, 1, 1) + b"".join(user_record(rng.randint(0, 2), rng.randint(0, 2), 0) for _ in range(rng.randint(1, 3)))
 
 
-def chain_setup(rng, switches):
+def chain_setup(rng, switches, depth=None):
     """One chain, all of it with add-inherited, flags on the first directory or a few below it, and a file or two at its end."""
-    depth = rng.choice((100, 126, 127, 127))
+    depth = depth or rng.choice((100, 126, 127, 127))
     setup = switches_record(*switches) + users(rng) + object_record(DIRECTORY, 0, 0, 0, rng.choice((NO_EXECUTE, NO_EXECUTE, READ_ONLY, 15)), 0)
     for number in range(1, depth):
         flags = rng.choice((NO_EXECUTE, NO_DELETE)) if rng.random() < 0.02 else 0

@@ -15,14 +15,15 @@ import run
 import setups
 import trees
 from model import (ADD_INHERITED, CHANNEL, CLASSES, CLONE, CLOSE, CONTROL, CREATE,
-                   DELETE, DIRECTORY, EXECUTE, FILE, FLAGS, LOGIN, NO_DELETE,
-                   NO_EXECUTE, READ, READ_ONLY, READ_OPEN, READ_WRITE_OPEN, SEARCH,
-                   SEARCH_ONLY, SEND_SIGNAL, SET_LEVEL, TERMINATE, UNSET, WRITE,
-                   WRITE_OPEN)
+                   DELETE, DIRECTORY, EXECUTE, FILE, FLAGS, GET_STATUS, LOGIN,
+                   MODIFY_ACCESS, NO_DELETE, NO_EXECUTE, READ, READ_ONLY, READ_OPEN,
+                   READ_WRITE_OPEN, SEARCH, SEARCH_ONLY, SEND_SIGNAL, SET_LEVEL,
+                   TERMINATE, UNSET, WRITE, WRITE_OPEN)
 from records import object_record, switches_record, user_record
 
 FULL_COVERAGE = 240           # from so many cases on, coverage is asserted
 SIZE_LIMIT = 700 * 1000       # of expected, at 240 cases
+TOP = 3                       # of the levels where processes signal each other
 
 # --- Set-ups --------------------------------------------------------------
 
@@ -57,6 +58,20 @@ def random_setup(rng, switches, users=None, objects=None):
             parent = rng.choice((rng.choice(directories), directories[-1])) + 1
         data += object_record(kind, level, category, int(rng.random() < secret), flags, parent)
         directories += [number] if kind == DIRECTORY else []
+    return data
+
+
+def signal_setup(rng, switches):
+    """Users most of whom may read what there is, and objects of a few levels, channels among them."""
+    top = rng.choice((1, 2, TOP, TOP))
+    trusting = rng.choice((0.0, 0.3, 0.5))
+    data = switches_record(*switches) + user_record(top, rng.choice((0, 1)), 0)
+    for _ in range(rng.randint(1, 3)):
+        data += user_record(rng.choice((top, top, rng.randint(0, 15))), rng.randint(0, 2), int(rng.random() < trusting))
+    for number in range(rng.choice((8, 12, 16))):
+        kind = number if number < 4 else rng.choice((FILE, FILE, CHANNEL, CHANNEL, DIRECTORY, CONTROL))
+        level = UNSET if rng.random() < 0.02 else rng.randint(0, top)
+        data += object_record(kind, level, 0 if rng.random() < 0.8 else rng.randint(0, 2), int(rng.random() < 0.1))
     return data
 
 
@@ -405,6 +420,140 @@ class Caller:
         for call in tried:
             self.give(call)
 
+    def pair(self):
+        """Two processes that run, different ones where there are two: p one that has read, q one that has read less, where there is one."""
+        running, processes = self.running(), self.facility.processes
+        read = [p for p in running if processes[p].read_mark > 0]
+        p = self.one_of(read if read and self.rng.random() < 0.6 else running, 31)
+        others = [q for q in running if q != p] or running
+        less = [q for q in others if processes[q].read_mark < processes[p].read_mark <= processes[q].write_mark]
+        return p, self.one_of(less if less and self.rng.random() < 0.8 else others, 31)
+
+    def read_object(self, p):
+        """Process p reads an object, above its level where it may."""
+        ways = {FILE: (READ_OPEN, READ), CHANNEL: (READ_WRITE_OPEN, READ), DIRECTORY: (SEARCH,), CONTROL: (GET_STATUS,)}
+        kind = self.rng.choice((FILE, FILE, CHANNEL, DIRECTORY, CONTROL))
+        able = [t for t in self.live([kind]) if self.answer((ways[kind][0], p, t, 0)) == 0]
+        above = [t for t in able if self.moves((ways[kind][0], p, t, 0))]
+        t = self.one_of(above or able or self.live([kind]))
+        for request in ways[kind]:
+            self.give((request, p, t, self.unused()))
+
+    def write_object(self, p, t=None):
+        """Process p writes an object, one that it may where none is given."""
+        ways = {FILE: (WRITE_OPEN, WRITE), CHANNEL: (READ_WRITE_OPEN, WRITE), DIRECTORY: (WRITE,), CONTROL: (MODIFY_ACCESS,)}
+        kind = self.rng.choice((FILE, FILE, CHANNEL, DIRECTORY, CONTROL)) if t is None else self.facility.objects[t].kind
+        able = [n for n in self.live([kind]) if self.answer((ways[kind][0], p, n, 0)) == 0]
+        t = self.one_of(able or self.live([kind])) if t is None else t
+        for request in ways[kind]:
+            self.give((request, p, t, self.unused()))
+
+    def try_below(self, p):
+        """What a read mark below the current level would let process p do."""
+        process = self.facility.processes[p]
+        if process is None or process.current == 0:
+            return
+        below = [t for t in self.live([FILE]) if self.facility.objects[t].level < process.current]
+        if below and process.automatic:
+            self.give((WRITE_OPEN, p, self.rng.choice(below), self.unused()))
+        if self.rng.random() < 0.6:
+            self.give((SET_LEVEL, p, self.unused(), self.rng.randint(0, process.current - 1)))
+
+    def meet(self):
+        """Two processes at one level, by a read or a set-level; one signals the other, which then tries what it might before."""
+        p, q = self.pair()
+        processes = self.facility.processes
+        if self.rng.random() < 0.5:
+            self.read_object(p)
+        if processes[p] is None or processes[q] is None:
+            return
+        level = processes[p].current
+        above = [t for t in self.live([FILE]) if self.facility.objects[t].level == level and self.answer((READ_OPEN, q, t, 0)) == 0]
+        writes = [t for t in self.live([FILE]) if self.facility.objects[t].level == level and self.answer((WRITE_OPEN, q, t, 0)) == 0]
+        way = self.rng.random()
+        if processes[q].current != level and above and way < 0.2:
+            self.give((READ_OPEN, q, self.rng.choice(above), self.unused()))
+        elif processes[q].current != level and writes and way < 0.5:
+            self.give((WRITE_OPEN, q, self.rng.choice(writes), self.unused()))
+        else:
+            self.give((SET_LEVEL, q, self.unused(), level))
+        sender, receiver = (p, q) if self.rng.random() < 0.8 else (q, p)
+        self.give((SEND_SIGNAL, sender, receiver, self.unused()))
+        if self.rng.random() < 0.7:
+            self.try_below(receiver)
+        if self.rng.random() < 0.5:
+            self.write_object(receiver)
+
+    def apart(self):
+        """A signal between two levels."""
+        p, q = self.pair()
+        if self.facility.processes[q] is None:
+            return
+        if self.facility.processes[p].current == self.facility.processes[q].current:
+            self.give((SET_LEVEL, q, self.unused(), self.rng.randint(0, TOP)))
+        self.give((SEND_SIGNAL, p, q, self.unused()))
+        self.try_below(q)
+        self.write_object(q)
+
+    def across_trust(self):
+        """A trusted owner's process signals another's, which set its level; or is signalled, at the level of the other."""
+        users, processes = self.facility.users, self.facility.processes
+        if self.free():
+            able = [n for n, user in enumerate(users) if user.trusted]
+            self.give((LOGIN, self.rng.choice(self.free()), self.unused(), self.one_of(able or range(len(users)))))
+        trusted = [p for p in self.running() if users[processes[p].owner].trusted]
+        others = [p for p in self.running() if p not in trusted]
+        if not trusted or not others:
+            return
+        p, q = self.rng.choice(trusted), self.rng.choice(others)
+        if self.rng.random() < 0.5:
+            self.give((SET_LEVEL, q, self.unused(), min(users[processes[q].owner].clearance, self.rng.randint(1, TOP))))
+            self.give((SEND_SIGNAL, p, q, self.unused()))
+            self.try_below(q)
+        else:
+            self.give((SET_LEVEL, p, self.unused(), processes[q].current))
+            self.give((SEND_SIGNAL, q, p, self.unused()))
+            self.try_below(p)
+
+    def to_itself(self):
+        """A signal to itself, at a level that was set or written to."""
+        p, _ = self.pair()
+        if self.facility.processes[p] is None:
+            return
+        if self.rng.random() < 0.5:
+            self.give((SET_LEVEL, p, self.unused(), self.rng.randint(1, TOP)))
+        else:
+            self.write_object(p)
+        self.give((SEND_SIGNAL, p, p, self.unused()))
+        self.try_below(p)
+
+    def carry_a_channel(self):
+        """A channel's matter into another object, by a second process that is signalled."""
+        objects, users = self.facility.objects, self.facility.users
+        set_levels = [t for t in self.live() if objects[t].level != UNSET]
+        channels = [t for t in set_levels if objects[t].kind == CHANNEL]
+        free = [n for n in self.free() if n < 8]
+        if not channels or len(free) < 2:
+            return
+        p, q = self.rng.sample(free, 2)
+        a = self.rng.choice(channels)
+        least = objects[a].level + self.rng.randint(0, 1)
+        above = [t for t in set_levels if t != a and objects[t].level >= least]
+        files = [t for t in above if objects[t].kind == FILE]
+        b = self.one_of((files if files and self.rng.random() < 0.7 else above) or set_levels)
+        cleared = [n for n, user in enumerate(users) if user.clearance >= max(objects[a].level, objects[b].level)] or [0]
+        for n in (q, p):
+            self.give((LOGIN, n, self.unused(), self.rng.choice(cleared)))
+        self.give((SET_LEVEL, q, self.unused(), objects[a].level))
+        self.give((READ_WRITE_OPEN, p, a, self.unused()))
+        self.give((READ, p, a, self.unused()))
+        self.give((SEND_SIGNAL, p, q, self.unused()))
+        self.give((SET_LEVEL, q, self.unused(), objects[b].level))
+        self.write_object(q, b)
+        for n in (q, p):
+            if self.rng.random() < 0.6:
+                self.give((TERMINATE, n, self.unused(), self.unused()))
+
     def signals(self):
         """Signals between two processes, before and after one of them moves."""
         for _ in range(2):
@@ -552,6 +701,14 @@ class Caller:
             else:
                 self.step()
 
+    def go_with_signals(self, count):
+        ways = (self.meet, self.meet, self.meet, self.meet, self.across_trust, self.across_trust, self.apart, self.to_itself, self.carry_a_channel,
+                self.signals, self.again, self.again, self.step, self.step)
+        while len(self.calls) < count:
+            if len(self.running()) < 3:
+                self.give(self.fitting(LOGIN))
+            self.rng.choice(ways)()
+
     def go_in_tree(self, count):
         ways = (self.make_and_try, self.make_and_try, self.end_a_shield, self.delete_directory, self.delete_below,
                 self.try_flagged, self.try_flagged, self.step, self.step)
@@ -662,7 +819,8 @@ def tree_case(rng, serial):
     """Chains and trees of directories, FF on in three of four."""
     switches = all_switches()[(serial + serial // 4) % 8 * 2][:3] + (int(serial % 4 != 0),)
     chain = serial % 3 == 0
-    caller = Caller(rng, (trees.chain_setup if chain else trees.tree_setup)(rng, switches))
+    setup = trees.chain_setup(rng, switches, 127 if serial % 4 == 3 else None) if chain else trees.tree_setup(rng, switches)
+    caller = Caller(rng, setup)
     for p in range(min(3, len(caller.facility.users))):
         caller.give((LOGIN, p, 0, p))
     if chain:                                # at its end, before a directory is deleted
@@ -670,6 +828,17 @@ def tree_case(rng, serial):
             for request in rng.sample(sorted(CLASSES[caller.facility.objects[t].kind]), 4) + [EXECUTE, SEARCH]:
                 caller.give((request, rng.choice((0, 0, 1)), t, 0))
     caller.go_in_tree(rng.randint(80, 150))
+    return finish(rng, caller, serial, 0)
+
+
+def signal_case(rng, serial):
+    """Windows that signal each other, MAC on in five of six, mostly alone."""
+    mac = int(serial % 6 != 5)
+    others = rng.choice(((0, 0, 0), (0, 0, 0), (1, 0, 0), (0, 1, 1))) if mac else all_switches()[(6 + serial // 6 * 2) % 8][1:]
+    caller = Caller(rng, signal_setup(rng, (mac,) + others))
+    for p in range(rng.randint(3, 5)):
+        caller.give((LOGIN, p, 0, rng.randrange(len(caller.facility.users))))
+    caller.go_with_signals(rng.randint(110, 190))
     return finish(rng, caller, serial, 0)
 
 
@@ -681,7 +850,8 @@ def finish(rng, caller, serial, count):
 
 
 MAKERS = {"full": full_case, "growing": growing_case, "bare": bare_case,
-          "answers": answers_case, "tree": tree_case, "ordinary": ordinary_case}
+          "answers": answers_case, "tree": tree_case, "signals": signal_case,
+          "ordinary": ordinary_case}
 
 
 def some_case(rng):
@@ -700,6 +870,7 @@ def make_cases(rng, count):
     plan += [("bare", n) for n in range(4)]
     plan += [("answers", n) for n in range(12)]
     plan += [("tree", n) for n in range(32)]
+    plan += [("signals", n) for n in range(24)]
     plan += [("worked example", 0)]
     plan = plan[:count]
     plan += [("ordinary", n) for n in range(count - len(plan))]
@@ -772,11 +943,14 @@ def coverage(cases):
             count["left-over bytes %d" % (len(calls) % 4)] += 1
         ended = set()
         account = model.Account(setup)
+        sent = Sent(count, facility, account)
         set_up = len(facility.objects)
         for i in range(0, len(calls) - 3, 4):
             call = tuple(calls[i:i + 4])
             cover_flags(count, facility, call, model.query(facility, call), set_up)
-            cover_call(count, facility, account, tuple(calls[i:i + 4]), ended)
+            sent.before(call)
+            outcome = cover_call(count, facility, account, call, ended)
+            sent.after(call, outcome)
         cover_writing(count, facility, set_up)
     return count
 
@@ -905,6 +1079,94 @@ def cover_call(count, facility, account, call, ended):
         sort = "trusted" if owner.trusted else "untrusted"
         equal = "equal" if process.current == other.current else "different"
         count["signal, %s, %s levels" % (sort, equal)] += 1
+    return outcome
+
+
+class Sent:
+    """What signals did in a list: marks that they raised or left, and matter that a process has by them alone."""
+
+    def __init__(self, count, facility, account):
+        self.count, self.facility, self.account = count, facility, account
+        self.lowest = {}                     # by process: its read mark by its own calls, where a signal raised it
+        self.left = {}                       # by process of a trusted owner: the level to which a signal would have raised it
+        self.gained = collections.defaultdict(set)
+
+    def before(self, call):
+        """What the marks decide of a call, before it is enforced."""
+        p, t = call[1], call[2]
+        process = self.facility.processes[p] if p < model.PROCESSES else None
+        if process is not None:
+            number = model.query(self.facility, call).number
+            if p in self.lowest and number == 12 and self.number_with(process, self.lowest[p], call) == 0:
+                self.count["refused only since a signal raised the mark"] += 1
+            if p in self.left and number == 0 and self.number_with(process, self.left[p], call) == 12:
+                self.count["accepted only since a trusted receiver's mark stays"] += 1
+        self.receiver = self.facility.processes[t] if t < model.PROCESSES else None
+        self.mark = self.receiver.read_mark if self.receiver else None
+        self.held = set(self.account.process_sets[t]) if t < model.PROCESSES else set()
+        self.held_by_object = set(self.account.object_sets[t]) if t < len(self.account.object_sets) else set()
+
+    def number_with(self, process, mark, call):
+        kept, process.read_mark = process.read_mark, mark
+        number = model.query(self.facility, call).number
+        process.read_mark = kept
+        return number
+
+    def after(self, call, outcome):
+        request, p, t, _ = call
+        if request == SEND_SIGNAL:
+            self.signal(p, t, outcome)
+        if outcome.number != 0:
+            return
+        if request in (LOGIN, TERMINATE):
+            for of in (self.lowest, self.left, self.gained):
+                of.pop(p, None)
+        if request == CLONE:
+            for of in (self.lowest, self.left, self.gained):
+                of.pop(t, None)
+                if p in of:
+                    of[t] = set(of[p]) if of is self.gained else of[p]
+        if model.needs_object(request, call[3]):
+            if p in self.lowest and CLASSES[self.account.kinds[t]][request] in ("R", "B"):
+                self.lowest[p] = max(self.lowest[p], self.facility.objects[t].level)
+            self.written(p, t)
+
+    def signal(self, p, t, outcome):
+        count = self.count
+        count["signal, number %d" % outcome.number] += 1
+        if outcome.number != 0:
+            return
+        owner = self.facility.users[self.receiver.owner]
+        below = self.mark < self.receiver.current
+        sort = "MAC off" if not self.facility.mac_on else "a trusted receiver" if owner.trusted else "an untrusted receiver"
+        sender = self.facility.users[self.facility.processes[p].owner]
+        if self.receiver.read_mark != self.mark:
+            count["signal raised the mark"] += 1
+            count["signal to itself raised the mark"] += p == t
+            count["signal of a trusted sender raised the mark"] += sender.trusted
+            self.lowest.setdefault(t, self.mark)
+        else:
+            count["signal left the mark, %s" % sort] += 1
+            count["signal left a mark below the level, %s" % sort] += below
+            count["signal to itself left the mark"] += p == t
+        if self.facility.mac_on and owner.trusted and below:
+            self.left[t] = self.receiver.current
+        new = self.account.process_sets[t] - self.held
+        count["signal carried matter"] += bool(new)
+        count["signal carried matter, MAC off"] += bool(new) and not self.facility.mac_on
+        count["signal carried matter to a trusted receiver"] += bool(new) and self.facility.mac_on and owner.trusted
+        count["signal joined matter"] += bool(new) and bool(self.held - self.account.process_sets[p])
+        self.gained[t] |= new
+
+    def written(self, p, t):
+        """An object that gained what its writer has by a signal alone."""
+        new = (self.account.object_sets[t] - self.held_by_object) & self.gained[p]
+        for c in new:
+            kind, objects = self.account.kinds[t], self.facility.objects
+            self.count["matter of a signal reached an object"] += 1
+            if self.account.kinds[c] == CHANNEL and kind == FILE:
+                self.count["a channel's matter reached a file by a signal"] += 1
+                self.count["a channel's matter reached a higher file by a signal"] += self.facility.mac_on and objects[c].level < objects[t].level
 
 
 def assert_coverage(count):
@@ -947,6 +1209,17 @@ def assert_coverage(count):
                 "signal, untrusted, different levels",
                 "signal, trusted, different levels"):
         least(key, 10)
+    for key in ("signal, number 0", "signal, number 2", "signal, number 3", "signal, number 12", "signal raised the mark",
+                "signal left the mark, MAC off", "signal left the mark, an untrusted receiver", "signal left the mark, a trusted receiver",
+                "signal left a mark below the level, a trusted receiver", "signal to itself left the mark",
+                "refused only since a signal raised the mark", "accepted only since a trusted receiver's mark stays",
+                "signal carried matter", "signal carried matter, MAC off", "signal carried matter to a trusted receiver",
+                "signal joined matter", "matter of a signal reached an object", "a channel's matter reached a file by a signal"):
+        least(key, 10)
+    least("signal to itself raised the mark", 5)
+    least("signal of a trusted sender raised the mark", 5)
+    least("a channel's matter reached a higher file by a signal", 5)
+    assert count["signal left a mark below the level, an untrusted receiver"] == 0
     least("128th object", 5)
     least("longest set-up", 1)
     least("refused set-up with left-over bytes", 5)

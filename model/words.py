@@ -54,8 +54,10 @@ def target_words(facility, request, t, e):
         return " number %d" % request
     if request == model.LOGIN:
         return " user %d" % e
-    if request in (model.CLONE, model.SEND_SIGNAL):
+    if request == model.CLONE:
         return " process %d" % t
+    if request == model.SEND_SIGNAL:
+        return " process %d (%s)" % (t, process_words(facility, t))
     if request == model.SET_LEVEL:
         return " level %d" % e
     if request == model.TERMINATE:
@@ -71,13 +73,15 @@ def sentence(index, facility, call):
     target = target_words(facility, request, t, e)
     caller = facility.processes[p] if p < model.PROCESSES else None
     outcome = model.enforce(facility, call)
+    receiver = "; process %d then %s" % (t, process_words(facility, t)) if request == model.SEND_SIGNAL else ""
     counted = ""
     if outcome.number in (12, 13):
         counted = "; refusals of user %d: %d" % (caller.owner, facility.refusals[caller.owner])
     flag = reason(facility, request, t) if outcome.ff == model.NOT_GRANTED else ""
-    return "%d process %d (%s): %s%s: MAC %s, FC %s, SIM %s, FF %s%s, combined %s: %d %s; then %s%s" % (
+    return "%d process %d (%s): %s%s: MAC %s, FC %s, SIM %s, FF %s%s, combined %s: %d %s; then %s%s%s" % (
         index, p, before, word(REQUESTS, request, "no request"), target, ANSWERS[outcome.mac], ANSWERS[outcome.fc], ANSWERS[outcome.sim],
-        ANSWERS[outcome.ff], flag, ANSWERS[outcome.combined], outcome.number, NUMBERS[outcome.number], process_words(facility, p), counted)
+        ANSWERS[outcome.ff], flag, ANSWERS[outcome.combined], outcome.number, NUMBERS[outcome.number], process_words(facility, p), receiver,
+        counted)
 
 
 def tell(setup, calls):

@@ -232,6 +232,61 @@ static void shield(void)
     expect(r.number == HV_SETUP_PARENT && r.index == 4, "a parent that is no directory", r.number);
 }
 
+/* What an accepted signal does, by value and where the facility is: the receiver's read mark alone changes, and becomes its current level. */
+static void signal_to(hv_facility f, uint8_t p, uint8_t t, uint8_t number, int raised, const char *what)
+{
+    hv_facility g = f, wanted = f;
+    if (raised) wanted.readmarks[t] = f.currents[t];
+    if (number == HV_DENIED) wanted.refusals[f.owners[p]]++;
+    hv_enforced e = hv_enforce(f, HV_SEND_SIGNAL, p, t, 0);
+    hv_outcome o = hv_enforce_at(&g, HV_SEND_SIGNAL, p, t, 0);
+    expect(e.outcome.number == number && o.number == number, what, o.number);
+    expect(same_facility(&e.facility, &wanted), what, e.facility.readmarks[t]);
+    expect(same_facility(&g, &wanted) && same_paddings(&g, &f), what, g.readmarks[t]);
+    expect(hv_process(e.facility, t).readmark == wanted.readmarks[t], what, hv_process(e.facility, t).readmark);
+}
+
+/* Signals to a receiver whose owner is untrusted, trusted, and to itself; upward, and with MAC off. Process 0 has read a file of level 2; processes 1
+ * to 3, of an untrusted and a trusted user, set their levels to 2, 2 and 3. */
+static void signals(void)
+{
+    static const uint8_t setup[] = {
+        3, 1, 0, 0, 0, 0, 0, 0,
+        1, 3, HV_GENERAL, 0, 0, 0, 0, 0,
+        1, 3, HV_GENERAL, 1, 0, 0, 0, 0,
+        2, HV_FILE, 2, 0, 0, 0, 0, 0,
+        2, HV_FILE, 3, 0, 0, 0, 0, 0,
+    };
+    static const uint8_t calls[][4] = {
+        {HV_LOGIN, 0, 0, 0}, {HV_READ_OPEN, 0, 0, 0}, {HV_READ, 0, 0, 0},
+        {HV_LOGIN, 1, 0, 0}, {HV_SET_LEVEL, 1, 0, 2},
+        {HV_LOGIN, 2, 0, 1}, {HV_SET_LEVEL, 2, 0, 2},
+        {HV_LOGIN, 3, 0, 0}, {HV_SET_LEVEL, 3, 0, 3},
+    };
+    hv_facility f = hv_read_setup(setup, sizeof setup).facility;
+    for (size_t k = 0; k < sizeof calls / sizeof calls[0]; k++)
+        expect(hv_enforce_at(&f, calls[k][0], calls[k][1], calls[k][2], calls[k][3]).number == HV_ACCEPTED, "call before a signal", (int)k);
+    expect(f.readmarks[0] == 2 && f.readmarks[1] == 0 && f.readmarks[2] == 0 && f.readmarks[3] == 0, "read marks before a signal", f.readmarks[1]);
+    signal_to(f, 0, 1, HV_ACCEPTED, 1, "signal to an untrusted receiver");
+    signal_to(f, 0, 2, HV_ACCEPTED, 0, "signal to a trusted receiver");
+    signal_to(f, 2, 3, HV_ACCEPTED, 1, "signal of a trusted sender, to another level");
+    signal_to(f, 1, 1, HV_ACCEPTED, 1, "signal to itself");
+    signal_to(f, 2, 2, HV_ACCEPTED, 0, "signal of a trusted process to itself");
+    signal_to(f, 0, 3, HV_DENIED, 0, "signal upward");
+    signal_to(f, 3, 0, HV_DENIED, 0, "signal downward");
+    signal_to(f, 0, 4, HV_NOT_RUNNING, 0, "signal to a process that does not run");
+    f.mac = 0;
+    signal_to(f, 0, 1, HV_ACCEPTED, 0, "signal with MAC off");
+    /* Process 1 is signalled, goes up to level 3 and writes the second file, which then holds the matter of the first. */
+    static const uint8_t carried[][4] = {{HV_SEND_SIGNAL, 0, 1, 0}, {HV_SET_LEVEL, 1, 0, 3}, {HV_WRITE_OPEN, 1, 1, 0}, {HV_WRITE, 1, 1, 0}};
+    uint8_t list[sizeof calls + sizeof carried];
+    memcpy(list, calls, sizeof calls);
+    memcpy(list + sizeof calls, carried, sizeof carried);
+    expect(hv_holds(setup, sizeof setup, list, sizeof list, 1, 0), "matter carried by a signal", 1);
+    list[sizeof calls + 2] = 3;
+    expect(!hv_holds(setup, sizeof setup, list, sizeof list, 1, 0), "matter of a refused signal", 1);
+}
+
 /* The same calls by value and where the facility is: outcome and facility are the same, and the paddings stay. */
 static void both_ways(hv_facility f)
 {
@@ -280,6 +335,7 @@ int main(void)
         flags(likely());
     }
     shield();
+    signals();
     printf("layout: %d checks, %d differ\n", checks, failures);
     return failures != 0;
 }

@@ -48,6 +48,7 @@ pub fn view_of(f: Facility, c: Call) -> View
     );
     let opens = labels::at(&f.opens, i);
     let flags = flags::seen_at(f.ff, &f.lives, &f.flags, &f.parents, t);
+    let other = state::user_at(&f.clearances, &f.roles, &f.trusts, receiver.owner as usize);
     View {
         switches: Switches {
             mac: f.mac,
@@ -64,6 +65,7 @@ pub fn view_of(f: Facility, c: Call) -> View
             object,
             opens,
             flags,
+            owner: other,
         },
     }
 }

@@ -84,7 +84,10 @@ fn change_of(v: View, c: Call) -> Change
             t: c.target,
         },
         4 => change_of_create(v, c),
-        16 => Change::NoChange,
+        16 => Change::PutProcess {
+            p: c.target,
+            r: modules::signalled(v),
+        },
         17 => Change::PutProcess {
             p: c.process,
             r: modules::levelled(v, c),

@@ -75,8 +75,8 @@ only-when-replayed setup calls m h a b held n =
     only-when setup (ap (λ (x : ℕ). on x) (sym (run-mac (callsOf calls) (fresh setup))) ∙ m) (callsOf calls) h a b held n
 
 pub exactly-when-replayed : ExactlyWhenReplayed
-exactly-when-replayed setup A a b ha hb na u C =
-    let E = exactly-when setup A a b ha hb na u C in (
+exactly-when-replayed setup A a b ha hb u C =
+    let E = exactly-when setup A a b ha hb u C in (
       (λ W. E .0 (record {
         calls = callsOf (W .calls);
         four = calls-four (W .calls) (W .bytes);

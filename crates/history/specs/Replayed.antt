@@ -9,7 +9,7 @@ use Rattle.rules.specs.Histories.{run, trustedLogins}
 use Rattle.rules.specs.Setup.{fresh}
 use Rattle.rules.specs.Lines.{callsOf}
 use Rattle.labels.specs.Decisions.{on}
-use Rattle.state.specs.State.{labelOf, switchesOf, objectOf}
+use Rattle.state.specs.State.{labelOf, switchesOf}
 use Rattle.rules.specs.Flow.{Above, loginsBy, Cleared, MacAlone}
 use Rattle.rules.specs.Matter.{holds}
 use Rattle.history.specs.CallBytes.{allBytes}
@@ -34,10 +34,10 @@ pub record CarriesBytes (setup : List ℕ) (u a b : ℕ) : Type 0 where
   pub untrusted : trustedLogins (fresh setup) (callsOf calls) ≡ false
   pub holding : holds setup (callsOf calls) b a ≡ true
 
--- Second half: with MAC on alone, a no channel, and an untrusted user cleared for both, there are such bytes exactly when b's level is at least a's.
+-- Second half: with MAC on alone, a of any kind, and an untrusted user cleared for both, there are such bytes exactly when b's level is at least a's.
 abbrev pub ExactlyWhenReplayed : Type 0
 ExactlyWhenReplayed =
     (setup : List ℕ) → MacAlone (switchesOf (fresh setup))
-    → (a b : ℕ) → a < fresh setup .entered → b < fresh setup .entered → (objectOf (fresh setup) a) .kind ≢ 2
+    → (a b : ℕ) → a < fresh setup .entered → b < fresh setup .entered
     → (u : ℕ) → Cleared setup u a b
     → CarriesBytes setup u a b ↔ (labelOf (fresh setup) a ⊑ labelOf (fresh setup) b)

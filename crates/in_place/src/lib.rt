@@ -211,6 +211,7 @@ fn target_in(s: &[u8], p: u8, t: u8) -> Target
         object,
         opens: opens_in(s, p, t),
         flags: flags_in(s, t),
+        owner: user_in(s, receiver.owner),
     }
 }
 

@@ -83,6 +83,10 @@ processGainsOf l p t = withProcess l p (mergedOf (membersIn (l .processes) p) (m
 unfoldable pub objectGainsOf : Ledger → ℕ → ℕ → Ledger
 objectGainsOf l p t = withObject l t (mergedOf (membersIn (l .objects) t) (membersIn (l .processes) p))
 
+-- t gains what p holds, both processes
+unfoldable pub receivedOf : Ledger → ℕ → ℕ → Ledger
+receivedOf l p t = withProcess l t (mergedOf (membersIn (l .processes) t) (membersIn (l .processes) p))
+
 -- login, clone and create
 unfoldable pub assignedNothingOf : Ledger → ℕ → Ledger
 assignedNothingOf l p = withProcess l p noMembers
@@ -114,7 +118,7 @@ onObjectOf l c = byClass (classOf (c .request) (at (l .kinds) (c .target))) l c
 abbrev pub carriedOf : Action → Ledger → Call → Ledger
 carriedOf Login l c = assignedNothingOf l (c .process)
 carriedOf Clone l c = copiedOf l (c .process) (c .target)
-carriedOf SendSignal l c = l
+carriedOf SendSignal l c = receivedOf l (c .process) (c .target)
 carriedOf SetLevel l c = l
 carriedOf Terminate l c = l
 carriedOf Create l c = createdOf l c

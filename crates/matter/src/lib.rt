@@ -3,8 +3,8 @@ ghost use Prim.Native.Nat.{min};
 ghost use mathlib.Core.Path.{_≡_};
 ghost use lib.ListN.{getD};
 ghost use Rattle.matter.specs.LedgerSteps.{assignedNothingOf, carriedOf, copiedOf, createdOf, enteredOf, heldBy, isMember, membersIn, mergedOf};
-ghost use Rattle.matter.specs.LedgerSteps.{noMembers, objectGainsOf, onObjectOf, onlyMember, processGainsOf, withObject, withProcess, selves};
-ghost use Rattle.matter.specs.LedgerSteps.{startOf, stepOf};
+ghost use Rattle.matter.specs.LedgerSteps.{noMembers, objectGainsOf, onObjectOf, onlyMember, processGainsOf, receivedOf, withObject, withProcess};
+ghost use Rattle.matter.specs.LedgerSteps.{selves, startOf, stepOf};
 ghost use Rattle.opens.specs.Opens.{mostObjects};
 ghost use Rattle.rules.specs.Matter.{gives, takes};
 use labels::at;
@@ -232,6 +232,14 @@ impl Ledger {
         self.with_object(t, s)
     }
 
+    // Send-signal: process t gains what process p holds.
+    fn received(self, p: u8, t: u8) -> Ledger
+        ensures { λ r. ⌜ r ≡ receivedOf self p t ⌝ }
+    {
+        let s = self.process_members(t).merged(self.process_members(p));
+        self.with_process(t, s)
+    }
+
     // Login: process p holds nothing.
     fn assigned_nothing(self, p: u8) -> Ledger
         ensures { λ r. ⌜ r ≡ assignedNothingOf self p ⌝ }
@@ -297,7 +305,7 @@ impl Ledger {
         match k {
             Action::Login => self.assigned_nothing(c.process),
             Action::Clone => self.copied(c.process, c.target),
-            Action::SendSignal => self,
+            Action::SendSignal => self.received(c.process, c.target),
             Action::SetLevel => self,
             Action::Terminate => self,
             Action::Create => self.created(c),

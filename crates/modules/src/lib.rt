@@ -1,8 +1,9 @@
-// What the modules answer, and MAC's moves of the caller.
+// What the modules answer, and MAC's moves of the caller and of a signal's receiver.
 ghost use mathlib.Core.Bool.{false};
 ghost use mathlib.Core.Path.{_≡_};
 ghost use Rattle.rules.specs.Modules.{answers, classIn, fcAnswer, fcRule, ffAnswer, ffRule, levelled, macAnswer, macClass, macObject, macRule};
-ghost use Rattle.rules.specs.Modules.{macSignal, mayRead, maySet, mayWrite, moveBy, moved, setLevel, simAnswer, simRule, wanted};
+ghost use Rattle.rules.specs.Modules.{macSignal, mayRead, maySet, mayWrite, moveBy, moved, readMarkRaised, setLevel, signalled, simAnswer, simRule};
+ghost use Rattle.rules.specs.Modules.{wanted};
 ghost use Rattle.rules.specs.Requests.{needsObject};
 use answers::Answer;
 use answers::Answers;
@@ -279,4 +280,22 @@ pub fn levelled(v: View, c: Call) -> Process
         return set_level(wanted(c), v.caller);
     }
     v.caller
+}
+
+fn read_mark_raised(mut r: Process) -> Process
+    ensures { λ x. ⌜ x ≡ readMarkRaised r ⌝ }
+{
+    let current = r.current;
+    r.readmark = current;
+    r
+}
+
+// The receiver after an accepted signal: with MAC on, and its owner not trusted, its read mark becomes its current level.
+pub fn signalled(v: View) -> Process
+    ensures { λ x. ⌜ x ≡ signalled v ⌝ }
+{
+    if (v.switches.mac == 1) & !(v.target.owner.trusted == 1) {
+        return read_mark_raised(v.target.receiver);
+    }
+    v.target.receiver
 }

@@ -16,7 +16,7 @@ use Rattle.rules.specs.Setup.{recordsOf, allowedLength, enterRecord, ent
 use Rattle.rules.specs.Setup.{setupRecords, setupBytes, writeSetup}
 use Rattle.rules.specs.Modules.{mayRead, mayWrite, maySet, macClass, macObject, macSignal, macRule, fcRule, simRule, macAnswer, fcAnswer, simAnswer}
 use Rattle.rules.specs.Modules.{ffRule, ffAnswer}
-use Rattle.rules.specs.Modules.{answers, moveBy, setLevel, moved, levelled}
+use Rattle.rules.specs.Modules.{answers, moveBy, setLevel, moved, levelled, signalled}
 use Rattle.rules.specs.Questions.{inRange, isRunning, isFree, openFor, roomFor, numberBy}
 use Rattle.rules.specs.Effects.{firstFlags, firstParent, effectFrom}
 use Rattle.rules.specs.Calls.{accepted, objectGiven, query, afterRefusal, after}
@@ -63,7 +63,7 @@ unfolding has hasParent inherits effectiveIn forbidding sourceIn
 flagsComputed = 0
 
 unfoldable pub movesComputed : ℕ
-unfolding moveBy setLevel moved levelled
+unfolding moveBy setLevel moved levelled signalled
 movesComputed = 0
 
 unfoldable pub questionsComputed : ℕ

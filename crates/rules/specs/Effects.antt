@@ -8,7 +8,7 @@ use Rattle.rules.specs.Types.{Call, Process, Object, Facility, Change, N
 use Rattle.rules.specs.Types.{EnterObject}
 use Rattle.state.specs.State.{changed, freshProcess}
 use Rattle.rules.specs.Requests.{Action, Login, Clone, SendSignal, SetLevel, Terminate, Create, OnObject, Unknown, inDirectory, openChange}
-use Rattle.rules.specs.Modules.{View, viewOf, moved, levelled}
+use Rattle.rules.specs.Modules.{View, viewOf, moved, levelled, signalled}
 use Rattle.rules.specs.FileFlags.{addInherited}
 
 -- a created file or directory has add-inherited and its directory t as parent, another object neither
@@ -35,7 +35,7 @@ created r e t =
 abbrev pub changeOf : Action → View → Call → Change
 changeOf Login v c = PutProcess (c .process) (freshProcess (c .extra))
 changeOf Clone v c = CloneProcess (c .process) (c .target)
-changeOf SendSignal v c = NoChange
+changeOf SendSignal v c = PutProcess (c .target) (signalled v)
 changeOf SetLevel v c = PutProcess (c .process) (levelled v c)
 changeOf Terminate v c = EndProcess (c .process)
 changeOf Create v c =

@@ -8,7 +8,7 @@ use mathlib.Core.List.{List, [], _∷_}
 use lib.Dec.{ltb, eqb}
 use Rattle.rules.specs.Types.{Switches, Call}
 use Rattle.labels.specs.Decisions.{_and_, asked, on}
-use Rattle.state.specs.State.{switchesOf, objectOf, isUser, trustedUser, labelOf, clearanceOf}
+use Rattle.state.specs.State.{switchesOf, isUser, trustedUser, labelOf, clearanceOf}
 use Rattle.labels.specs.Labels.{Label, given, _⊑_}
 use Rattle.rules.specs.Histories.{run, trustedLogins}
 use Rattle.rules.specs.Requests.{actionOf, isLogin}
@@ -66,11 +66,11 @@ pub record MacAlone (s : Switches) : Type 0 where
   pub sim : on (s .sim) ≡ false
   pub ff : on (s .ff) ≡ false
 
--- Second half: for every set-up with MAC on alone, objects a and b of it, a no channel, and an untrusted user cleared for both,
+-- Second half: for every set-up with MAC on alone, objects a and b of it, of any kind, and an untrusted user cleared for both,
 -- there is a list, with logins of this user alone, by which b comes to hold the matter of a exactly when b's level is at least a's.
 abbrev pub ExactlyWhen : Type 0
 ExactlyWhen =
     (s : List ℕ) → MacAlone (switchesOf (fresh s))
-    → (a b : ℕ) → a < fresh s .entered → b < fresh s .entered → (objectOf (fresh s) a) .kind ≢ 2
+    → (a b : ℕ) → a < fresh s .entered → b < fresh s .entered
     → (u : ℕ) → Cleared s u a b
     → Carries s u a b ↔ (labelOf (fresh s) a ⊑ labelOf (fresh s) b)

@@ -106,7 +106,7 @@ carry k a c =
 unfoldable pub carryBy : Action → Account → Call → Account
 carryBy Login a c = assign a (c .process) nothing
 carryBy Clone a c = assign a (c .target) (a .processes (c .process))
-carryBy SendSignal a c = a
+carryBy SendSignal a c = assign a (c .target) (union (a .processes (c .target)) (a .processes (c .process)))
 carryBy SetLevel a c = a
 carryBy Terminate a c = a
 carryBy Create a c =

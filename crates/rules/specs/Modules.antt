@@ -1,4 +1,4 @@
--- "What the modules answer": MAC, FC, SIM and FF on what a call looks at, and MAC's moves of the caller.
+-- "What the modules answer": MAC, FC, SIM and FF on what a call looks at, and MAC's moves of the caller and of a signal's receiver.
 pub use Rattle.rules.specs.declared.View.{View}
 pub use Rattle.rules.specs.declared.Target.{Target}
 use Prim.Native.Nat.{ℕ}
@@ -18,9 +18,16 @@ use Rattle.rules.specs.Requests.{Both, NoCondition, classOf, alters, inD
 abbrev pub flagsSeen : Facility → ℕ → ℕ
 flagsSeen f t = cond (on (f .ff)) (effective (objectsIn f) t) 0
 
--- the target of process p: t as a process and as an object, how p has it open, and its effective flags
+-- the target of process p: t as a process and as an object, how p has it open, its effective flags, and the owner of t as a process
 abbrev pub targetOf : Facility → ℕ → ℕ → Target
-targetOf f p t = record { receiver = processOf f t; object = objectOf f t; opens = opensOf f p t; flags = flagsSeen f t }
+targetOf f p t =
+    record {
+      receiver = processOf f t;
+      object = objectOf f t;
+      opens = opensOf f p t;
+      flags = flagsSeen f t;
+      owner = userOf f ((processOf f t) .owner);
+    }
 
 -- what a call looks at
 abbrev pub viewOf : Facility → Call → View
@@ -138,3 +145,12 @@ moved v c =
 -- the caller after an accepted set-level: with MAC off nothing changes
 unfoldable pub levelled : View → Call → Process
 levelled v c = cond (on (v .switches .mac)) (setLevel (wanted c) (v .caller)) (v .caller)
+
+-- r with its read mark at its current level
+abbrev pub readMarkRaised : Process → Process
+readMarkRaised r = withLevels r (r .current) (r .current) (r .writemark) (r .automatic)
+
+-- the receiver after an accepted signal: with MAC on, and its owner not trusted, its read mark becomes its current level; else it is as it was
+unfoldable pub signalled : View → Process
+signalled v =
+    cond (on (v .switches .mac) and not (on (v .target .owner .trusted))) (readMarkRaised (v .target .receiver)) (v .target .receiver)

@@ -1,4 +1,4 @@
--- Demands 1 and 2 as statements over the definitions. Each is proved in the module of Proofs/ that its comment names.
+-- Demands 1 and 2, and Tickets 1, 2 and 4, as statements over the definitions. Each is proved in the module of Proofs/ that its comment names.
 use Rattle.answers.specs.declared.Outcome.the-variants.{Refused}
 use Prim.Native.Nat.{ℕ, zero, suc, _+_, _-_, _≤_, _<_, min}
 use mathlib.Core.Path.{_≡_}
@@ -7,13 +7,14 @@ use mathlib.Core.Bool.{true, false, not, cond}
 use mathlib.Core.List.{List, [], _∷_}
 use lib.Bits.{bitOr}
 use lib.Dec.{leb, ltb, eqb}
-use lib.ListN.{length}
+use lib.ListN.{length, set}
 use Rattle.rules.specs.Types.{Outcome, Call, Facility}
-use Rattle.labels.specs.Decisions.{_and_, _or_, asked, on}
+use Rattle.labels.specs.Decisions.{_and_, _or_, asked, at, on}
 use Rattle.answers.specs.Outcomes.{denies, numberOf, objectNumberOf, noObject}
 use Rattle.opens.specs.Opens.{mostObjects}
 use Rattle.state.specs.State.{Objects, objectsIn, objectOf, live, mostUsers, mostRefusals, switchesOf, processOf, refusalsOf, putRefusals, counted}
-use Rattle.rules.specs.Calls.{accepted, query, after, enforce}
+use Rattle.state.specs.State.{trustedUser, usersIn, processesFrom, with}
+use Rattle.rules.specs.Calls.{ownerIn, accepted, query, after, enforce}
 use Rattle.rules.specs.Histories.{run, outcomes, Step, past, ownerAfter}
 use Rattle.rules.specs.Requests.{Action, Class, lastRequest, actionOf, isAbsent, isNoCondition, isLogin, isCreate, inDirectory, needsObject}
 use Rattle.rules.specs.Kinds.{SetupRecord, fits, room, allowed, parentFits, recordNumber}
@@ -21,6 +22,7 @@ use Rattle.rules.specs.Setup.{fresh, acceptedSetup, usersOf, liveObjects
 use Rattle.rules.specs.FileFlags.{readOnly, noExecute, noDelete, searchOnly, addInherited, has, withoutNoDelete, flagsOf, parentOf, inherits}
 use Rattle.rules.specs.FileFlags.{effective, forbids, flagSource}
 use Rattle.rules.specs.Modules.{View, classIn}
+use Rattle.rules.specs.Matter.{union, Account, afterEntry}
 use Rattle.rules.specs.Questions.{runsOf, inRange, isRunning, isFree, openFor, roomFor, numberBy, number}
 
 -- Demand 1 (Proofs/Refusals): what a call that is not accepted leaves, and that query gives what enforce would.
@@ -145,3 +147,41 @@ pub record Inheritance : Type 0 where
   pub each : (v request : ℕ) (k : Class) (kind : ℕ) → forbids v request k kind
       ≡ (has readOnly v and forbids readOnly request k kind or has noExecute v and forbids noExecute request k kind
       or has noDelete v and forbids noDelete request k kind or has searchOnly v and forbids searchOnly request k kind)
+
+-- c is a signal (request 16) that f accepts
+pub record AcceptedSignal (f : Facility) (c : Call) : Type 0 where
+  pub request : c .request ≡ 16
+  pub accepted : accepted f c ≡ true
+
+-- the owner of the receiver
+abbrev pub receiverOwner : Facility → Call → ℕ
+receiverOwner f c = (processOf f (c .target)) .owner
+
+-- f with the read mark of process p at p's current level, and nothing else changed
+abbrev pub withReadMarkRaised : Facility → ℕ → Facility
+withReadMarkRaised f p =
+    with f (f .users) (usersIn f) (f .entered) (objectsIn f)
+    (processesFrom (f .runnings) (f .owners) (f .currents) (set (f .readmarks) p (at (f .currents) p)) (f .writemarks) (f .automatics))
+    (f .opens) (f .refusals)
+
+-- the account after a call that is enforced on f
+abbrev pub accountBy : Account → Facility → Call → Account
+accountBy a f c = afterEntry a (record { call = c; accepted = accepted f c })
+
+-- Ticket 4, signals with a value (Proofs/Signals): an accepted signal, from any facility and with any account.
+pub record Signals : Type 0 where
+  -- with MAC on, the read mark of a receiver whose owner is not trusted becomes its current level, and nothing else changes
+  pub raises : (f : Facility) (c : Call) → AcceptedSignal f c → on (f .mac) ≡ true → trustedUser f (receiverOwner f c) ≡ false
+      → after f c ≡ withReadMarkRaised f (c .target)
+  -- with MAC off, or a receiver whose owner is trusted, nothing changes
+  pub off : (f : Facility) (c : Call) → AcceptedSignal f c → on (f .mac) ≡ false → after f c ≡ f
+  pub trusted : (f : Facility) (c : Call) → AcceptedSignal f c → trustedUser f (receiverOwner f c) ≡ true → after f c ≡ f
+  -- with MAC on, a sender whose owner is not trusted has the receiver's current level
+  pub level : (f : Facility) (c : Call) → AcceptedSignal f c → on (f .mac) ≡ true → trustedUser f (ownerIn f c) ≡ false
+      → (processOf f (c .process)) .current ≡ (processOf f (c .target)) .current
+  -- the receiver holds what it held and what the sender held; every other process and every object hold what they held
+  pub receiver : (a : Account) (f : Facility) (c : Call) → AcceptedSignal f c
+      → accountBy a f c .processes (c .target) ≡ union (a .processes (c .target)) (a .processes (c .process))
+  pub others : (a : Account) (f : Facility) (c : Call) → AcceptedSignal f c → (p : ℕ) → p ≢ c .target
+      → accountBy a f c .processes p ≡ a .processes p
+  pub objects : (a : Account) (f : Facility) (c : Call) → AcceptedSignal f c → accountBy a f c .objects ≡ a .objects

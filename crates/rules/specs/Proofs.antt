@@ -20,7 +20,9 @@ pub mod Steps
 pub mod OnlyWhen
 pub mod Kept
 pub mod Witness
+pub mod WitnessCalls
 pub mod ExactlyWhen
+pub mod Signals
 pub mod Refusals
 pub mod Owners
 pub mod Counters

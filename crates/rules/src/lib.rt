@@ -35,12 +35,14 @@ pub struct Runs {
     pub receiver: u8,
 }
 
-// What a call's target is: as a process and as an object, how the caller has it open, and its effective flags where FF is on.
+// What a call's target is: as a process and as an object, how the caller has it open, its effective flags where FF is on, and the owner of it
+// as a process (a signal's receiver).
 pub struct Target {
     pub receiver: Process,
     pub object: Object,
     pub opens: u8,
     pub flags: u8,
+    pub owner: User,
 }
 
 // What a call looks at: the switches, the counts, the caller and its owner, and the target.

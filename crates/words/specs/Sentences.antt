@@ -19,7 +19,7 @@ use Rattle.rules.specs.declared.Action.{Action}
 use Rattle.rules.specs.declared.Action.the-variants.{Login, Clone, SendSignal, SetLevel, Terminate, Create, OnObject, Unknown}
 use Rattle.rules.specs.declared.Target.{Target}
 use Rattle.rules.specs.declared.View.{View}
-use Rattle.rules.specs.Requests.{actionOf, inDirectory}
+use Rattle.rules.specs.Requests.{actionOf, inDirectory, isSendSignal}
 use Rattle.rules.specs.FileFlags.{readOnly, noExecute, noDelete, searchOnly, addInherited, has, forbidding, flagSource}
 use Rattle.rules.specs.Modules.{viewOf, classIn}
 use Rattle.rules.specs.Calls.{query, after, ownerIn}
@@ -59,11 +59,15 @@ abbrev pub createText : Call → Target → List ℕ
 createText c x =
     cond (inDirectory (c .extra)) (filled (ascii " % in") (c .extra ∷ []) ++ objectText (c .target) x) (filled (ascii " %") (c .extra ∷ []))
 
+-- a signal's receiver
+abbrev pub receiverText : ℕ → Target → List ℕ
+receiverText t x = filled (ascii " process # (") (t ∷ []) ++ processText (x .receiver) (x .owner) ++ ascii ")"
+
 -- what a request is about
 abbrev pub targetText : Action → Call → Target → List ℕ
 targetText Login c x = filled (ascii " user #") (c .extra ∷ [])
 targetText Clone c x = filled (ascii " process #") (c .target ∷ [])
-targetText SendSignal c x = filled (ascii " process #") (c .target ∷ [])
+targetText SendSignal c x = receiverText (c .target) x
 targetText SetLevel c x = filled (ascii " level #") (c .extra ∷ [])
 targetText Terminate c x = []
 targetText Create c x = createText c x
@@ -87,6 +91,11 @@ outcomeText o r =
     ++ reasonText (a .ff) r
     ++ filled (ascii ", combined ': # !; then ") (code (a .combined) ∷ numberOf o ∷ numberOf o ∷ [])
 
+-- after a signal, its receiver
+abbrev pub laterText : Call → Target → List ℕ
+laterText c x =
+    cond (isSendSignal (actionOf (c .request))) (filled (ascii "; process # then ") (c .target ∷ []) ++ processText (x .receiver) (x .owner)) []
+
 -- after a denial, how many refusals of the caller's owner are counted
 abbrev pub countText : Outcome → View → ℕ → List ℕ
 countText o v n = cond (denies (numberOf o)) (filled (ascii "; refusals of user #: ") (v .caller .owner ∷ []) ++ decimal n) []
@@ -98,6 +107,7 @@ sentenceText t =
     ++ targetText (actionOf (t .call .request)) (t .call) (t .before .target)
     ++ outcomeText (t .outcome) (t .reason)
     ++ processText (t .later .caller) (t .later .owner)
+    ++ laterText (t .call) (t .later .target)
     ++ countText (t .outcome) (t .before) (t .count)
     ++ (lineFeed ∷ [])
 

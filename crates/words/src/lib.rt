@@ -9,8 +9,8 @@ ghost use Rattle.rules.specs.Calls.{after};
 ghost use Rattle.rules.specs.Requests.{actionOf};
 ghost use Rattle.text.specs.Stored.{Stored};
 ghost use Rattle.words.specs.Patterns.{filled, said, signs};
-ghost use Rattle.words.specs.Sentences.{beforeText, countText, createText, flagText, flagsText, objectText, outcomeText, processText};
-ghost use Rattle.words.specs.Sentences.{reasonIn, reasonText, sentence, sentenceText, setupSentence, targetText};
+ghost use Rattle.words.specs.Sentences.{beforeText, countText, createText, flagText, flagsText, laterText, objectText, outcomeText};
+ghost use Rattle.words.specs.Sentences.{processText, reasonIn, reasonText, receiverText, sentence, sentenceText, setupSentence, targetText};
 ghost use Rattle.words.specs.Tables.{sizeIn, wordAt};
 ghost use Rattle.words.specs.Words.{answerWord, flagWord, kindWord, levelWord, numberWord, requestWord};
 use answers::Answer;
@@ -19,6 +19,8 @@ use rules::Action;
 use rules::View;
 use state::Call;
 use state::Facility;
+use state::Process;
+use state::User;
 
 // How many bytes a buffer for lines has. An array and not a slice: a function that hands it on is then checked in two thirds of the time.
 pub const BUFFER: usize = 65536;
@@ -234,17 +236,17 @@ fn put_one(out: &mut [u8; BUFFER], place: usize, pattern: &[u8], n: u8) -> usize
     put_filled(out, place, pattern, &[n])
 }
 
-// The calling process: its owner with the clearance, its current level and its marks.
-fn put_process(out: &mut [u8; BUFFER], place: usize, v: View) -> usize
-    ensures { λ x. ⌜ Stored (now (out .entry)) place (processText (v .caller) (v .owner)) (now (out .exit)) x ⌝ }
+// A process: its owner with the clearance, its current level and its marks.
+fn put_process(out: &mut [u8; BUFFER], place: usize, r: Process, u: User) -> usize
+    ensures { λ x. ⌜ Stored (now (out .entry)) place (processText r u) (now (out .exit)) x ⌝ }
 {
-    if v.caller.running == 1 {
+    if r.running == 1 {
         let numbers = [
-            v.caller.owner,
-            v.owner.clearance.level,
-            v.caller.current.level,
-            v.caller.readmark.level,
-            v.caller.writemark.level,
+            r.owner,
+            u.clearance.level,
+            r.current.level,
+            r.readmark.level,
+            r.writemark.level,
         ];
         return put_filled(
             out,
@@ -301,16 +303,24 @@ fn put_create(out: &mut [u8; BUFFER], place: usize, c: Call, v: View) -> usize
     put_one(out, place, b" %", c.extra)
 }
 
+// A signal's receiver.
+fn put_receiver(out: &mut [u8; BUFFER], place: usize, c: Call, v: View) -> usize
+    ensures { λ x. ⌜ Stored (now (out .entry)) place (receiverText (c .target) (v .target)) (now (out .exit)) x ⌝ }
+{
+    let mut p = put_one(out, place, b" process # (", c.target);
+    p = put_process(out, p, v.target.receiver, v.target.owner);
+    text::put_text(out, p, b")")
+}
+
 // What the request is about.
 fn put_target(out: &mut [u8; BUFFER], place: usize, c: Call, v: View) -> usize
     ensures { λ x. ⌜ Stored (now (out .entry)) place (targetText (actionOf (c .request)) c (v .target)) (now (out .exit)) x ⌝ }
 {
-    let process = b" process #";
     let k = requests::action_of(c.request);
     match k {
         Action::Login => put_one(out, place, b" user #", c.extra),
-        Action::Clone => put_one(out, place, process, c.target),
-        Action::SendSignal => put_one(out, place, process, c.target),
+        Action::Clone => put_one(out, place, b" process #", c.target),
+        Action::SendSignal => put_receiver(out, place, c, v),
         Action::SetLevel => put_one(out, place, b" level #", c.extra),
         Action::Terminate => put_one(out, place, b"", 0),
         Action::Create => put_create(out, place, c, v),
@@ -325,7 +335,7 @@ fn put_before(out: &mut [u8; BUFFER], place: usize, index: u64, c: Call, v: View
 {
     let mut p = text::put_decimal(out, place, index);
     p = put_one(out, p, b" process # (", c.process);
-    p = put_process(out, p, v);
+    p = put_process(out, p, v.caller, v.owner);
     put_one(out, p, b"): &", c.request)
 }
 
@@ -357,6 +367,17 @@ fn put_outcome(out: &mut [u8; BUFFER], place: usize, o: Outcome, r: Reason) -> u
     put_filled(out, p, b", combined ': # !; then ", &all)
 }
 
+// After a signal, its receiver.
+fn put_later(out: &mut [u8; BUFFER], place: usize, c: Call, v: View) -> usize
+    ensures { λ x. ⌜ Stored (now (out .entry)) place (laterText c (v .target)) (now (out .exit)) x ⌝ }
+{
+    if requests::is_send_signal(c.request) {
+        let p = put_one(out, place, b"; process # then ", c.target);
+        return put_process(out, p, v.target.receiver, v.target.owner);
+    }
+    text::put_text(out, place, b"")
+}
+
 // After a denial, how many refusals of the caller's owner are counted.
 fn put_count(out: &mut [u8; BUFFER], place: usize, o: Outcome, v: View, n: u32) -> usize
     ensures { λ x. ⌜ Stored (now (out .entry)) place (countText o v n) (now (out .exit)) x ⌝ }
@@ -376,7 +397,8 @@ fn put_sentence(out: &mut [u8; BUFFER], place: usize, t: Told) -> usize
     let mut p = put_before(out, place, t.index, t.call, t.before);
     p = put_target(out, p, t.call, t.before);
     p = put_outcome(out, p, o, t.reason);
-    p = put_process(out, p, t.later);
+    p = put_process(out, p, t.later.caller, t.later.owner);
+    p = put_later(out, p, t.call, t.later);
     p = put_count(out, p, o, t.before, t.count);
     text::put_text(out, p, b"\n")
 }

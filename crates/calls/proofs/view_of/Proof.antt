@@ -13,7 +13,8 @@ use Rattle.flags.specs.Laws.{effective-lists}
 returns : tie.Need-returns
 unfolding opensOf
 returns c =
-    let opens = c .before .before .before .before .before .before .before .before in
+    let flags = c .before .before .before .before .before .before .before .before .before in
+    let opens = flags .before .before .before .before .before .before .before .before in
     let object = opens .before .before .before .before in
     let owner = object .before .before .before .before .before .before .before .before .before .before .before .before .before .before .before .before in
     let receiver = owner .before .before .before .before .before .before .before .before .before in
@@ -30,7 +31,8 @@ returns c =
         receiver = receiver .process-at2 .ensures i;
         object = object .object-at .ensures i;
         opens = (opens .at .ensures ∙ ap (λ (n : ℕ). at (f .opens) n) (marks .mark-place .ensures)) i;
-        flags = (c .seen-at .ensures ∙ ap (λ (n : ℕ). cond (on (f .ff)) n 0) (effective-lists (objectsIn f) _)) i;
+        flags = (flags .seen-at .ensures ∙ ap (λ (n : ℕ). cond (on (f .ff)) n 0) (effective-lists (objectsIn f) _)) i;
+        owner = (c .user-at2 .ensures ∙ ap (λ (r : Process). userOf f (r .owner)) (receiver .process-at2 .ensures)) i;
       };
     }
 
@@ -38,4 +40,5 @@ pub view-of-spec : {M : Type 1} → statement M
 view-of-spec =
     tie.close
     (tie.spec (λ c κs. search needs) (λ c. search needs) (λ c. search needs) (λ c. search needs) (λ c κs. search needs) (λ c κs. search needs)
-    (λ c. search needs) (λ c κs. search needs) (λ c κs. search needs) (λ c κs. search needs) (λ c κs. search needs) returns)
+    (λ c. search needs) (λ c κs. search needs) (λ c κs. search needs) (λ c κs. search needs) (λ c κs. search needs) (λ c. search needs)
+    (λ c κs. search needs) returns)

@@ -20,7 +20,9 @@ returns-2 c = let a = c .before .before .args in
 
 returns-3 : tie.Need-returns-3
 unfolding actionOf
-returns-3 c = rw (c .match .keys3)
+returns-3 c = let a = c .before .before .args in
+    ap (PutProcess (a .c .target)) (c .signalled .ensures)
+    ∙ ap (λ (r : ℕ). changeOf (actionOf r) (a .v) (a .c)) (sym (c .before .match .keys3))
 
 returns-4 : tie.Need-returns-4
 unfolding actionOf
@@ -50,5 +52,5 @@ returns-8 c =
 pub change-of-spec : {M : Type 1} → statement M
 change-of-spec =
     tie.close
-    (tie.spec (λ c κs. search needs) (λ c κs. search needs) (λ c κs. search needs) (λ c κs. search needs) returns returns-2 returns-3 returns-4
-    returns-5 returns-6 returns-7 returns-8)
+    (tie.spec (λ c κs. search needs) (λ c κs. search needs) (λ c κs. search needs) (λ c κs. search needs) (λ c κs. search needs) returns returns-2
+    returns-3 returns-4 returns-5 returns-6 returns-7 returns-8)

@@ -1,6 +1,5 @@
 -- Each array is lent to the writer of parts as its field.
 use mathlib.Core.Path.{_∙_, ap}
-use mathlib.Core.List.{List}
 use borrow.Author.Needs.{needs}
 use Rattle.rules.specs.Setup.{Writing, writeSetup}
 use Rattle.setup.specs.Laws.{parts-written}

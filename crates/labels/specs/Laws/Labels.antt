@@ -4,7 +4,7 @@ use mathlib.Core.Path.{_≡_}
 use mathlib.Core.Bool.{true, false}
 use lib.Dec.{leb, eqb}
 use native.Mathlib.Omega.{arith}
-use borrow.Author.Tests.{le-leb, leb-true, eqb-true, leb-false, ne-eqb}
+use borrow.Author.Tests.{le-leb, leb-true, eqb-true, leb-false, eq-eqb, ne-eqb}
 use Rattle.labels.specs.Labels.{unset, Label, leq, _⊑_, same, join, meet, bottom, lawful, top, given, label}
 use Rattle.labels.specs.Laws.Decisions.{by-test}
 
@@ -23,6 +23,10 @@ unfolding leq
 pub same-eq : (a b : Label) → same a b ≡ true → a ≡ b
 unfolding same
 same-eq a b h = λ i. record { level = eqb-true (a .level) (b .level) h i }
+
+pub eq-same : (a b : Label) → a ≡ b → same a b ≡ true
+unfolding same
+eq-same a b e = eq-eqb (a .level) (b .level) (λ i. e i .level)
 
 pub ⊑-antisym : (a b : Label) → a ⊑ b → b ⊑ a → a ≡ b
 unfolding leq

@@ -38,6 +38,7 @@ accepted-in-range f l c S n h =
     record {
       caller = q .process;
       cloned = λ k. ltb-true _ _ (rw k at (q .cloned));
+      signalled = λ k. ltb-true _ _ (rw k at (q .signalled));
       object = λ k.
           let a : live f (c .target) ≡ true = rw k at (q .alive) in
           let b = S .alive (c .target) a in

@@ -15,14 +15,15 @@ use Rattle.rules.specs.Matter.{account, only, start}
 use Rattle.rules.specs.Histories.{Entry}
 use Rattle.matter.specs.declared.Members.{Members}
 use Rattle.matter.specs.LedgerSteps.{isMember, heldBy, putMembers, accountOf, withProcess, withObject, mergedOf, membersIn, processGainsOf}
-use Rattle.matter.specs.LedgerSteps.{objectGainsOf, noMembers, assignedNothingOf, copiedOf, withKind, onlyMember, enteredOf, byClass, createdOf}
+use Rattle.matter.specs.LedgerSteps.{objectGainsOf, receivedOf, noMembers, assignedNothingOf, copiedOf, withKind, onlyMember, enteredOf}
+use Rattle.matter.specs.LedgerSteps.{byClass, createdOf}
 use Rattle.matter.specs.LedgerSteps.{onObjectOf, carriedOf, stepOf, selves, startOf}
 use Rattle.labels.specs.Laws.Decisions.{by-eq, by-test}
 use Rattle.matter.specs.Laws.BitRows.{row-same, row-other, member-merged, member-none, length-put, member-only}
 use Rattle.labels.specs.Decisions.{at}
 use Rattle.state.specs.declared.Call.{Call}
 use Rattle.rules.specs.declared.Action.{Action}
-use Rattle.rules.specs.Requests.{isClone, isCreate, needsObject, actionOf, inDirectory, classOf}
+use Rattle.rules.specs.Requests.{isClone, isSendSignal, isCreate, needsObject, actionOf, inDirectory, classOf}
 use Rattle.rules.specs.declared.Class.{Class}
 use Rattle.rules.specs.declared.Action.the-variants.{Create, Login, Clone, SendSignal, SetLevel, Terminate, OnObject, Unknown}
 use Rattle.matter.specs.AfterCalls.{ledgerAfter}
@@ -97,6 +98,13 @@ object-gains l p t z h =
     object-put l t _ z h
     ∙ ap (give (accountOf l) t) (set-merged (membersIn (l .objects) t) (membersIn (l .processes) p))
 
+pub signal-received : (l : Ledger) (p t : ℕ) → Sized l → t < mostProcesses
+    → accountOf (receivedOf l p t) ≡ assign (accountOf l) t (union (accountOf l .processes t) (accountOf l .processes p))
+unfolding receivedOf assign accountOf heldBy
+signal-received l p t z h =
+    process-put l t _ z h
+    ∙ ap (assign (accountOf l) t) (set-merged (membersIn (l .processes) t) (membersIn (l .processes) p))
+
 pub nothing-assigned : (l : Ledger) (p : ℕ) → Sized l → p < mostProcesses
     → accountOf (assignedNothingOf l p) ≡ assign (accountOf l) p nothing
 unfolding assignedNothingOf
@@ -148,6 +156,7 @@ object-entered l e z h =
 pub record Allowed (k : Action) (l : Ledger) (c : Call) : Type 0 where
   pub caller : c .process < mostProcesses
   pub cloned : isClone k ≡ true → c .target < mostProcesses
+  pub signalled : isSendSignal k ≡ true → c .target < mostProcesses
   pub object : needsObject k (c .extra) ≡ true → c .target < mostObjects
   pub number : isCreate k ≡ true → l .next < mostObjects
 
@@ -176,7 +185,7 @@ pub call-carried : (k : Action) (l : Ledger) (c : Call) → Sized l → Allowed 
 unfolding carryBy onObjectOf accountOf
 call-carried Login l c z h = nothing-assigned l (c .process) z (h .caller)
 call-carried Clone l c z h = set-copied l (c .process) (c .target) z (h .caller) (h .cloned refl)
-call-carried SendSignal l c z h = refl
+call-carried SendSignal l c z h = signal-received l (c .process) (c .target) z (h .signalled refl)
 call-carried SetLevel l c z h = refl
 call-carried Terminate l c z h = refl
 call-carried Create l c z h = created l c z h
@@ -199,11 +208,11 @@ sized-entered l e z =
     (λ a. rw a z)
 
 sized-carried : (k : Action) (l : Ledger) (c : Call) → Sized l → Sized (carriedOf k l c)
-unfolding assignedNothingOf copiedOf createdOf onObjectOf byClass processGainsOf objectGainsOf
+unfolding assignedNothingOf copiedOf receivedOf createdOf onObjectOf byClass processGainsOf objectGainsOf
 sized-carried Login l c z = sized-process l (c .process) noMembers z
 sized-carried Clone l c z =
     by-test (ltb (c .process) mostProcesses) (λ a. rw a (sized-process l (c .target) _ z)) (λ a. rw a z)
-sized-carried SendSignal l c z = z
+sized-carried SendSignal l c z = sized-process l (c .target) _ z
 sized-carried SetLevel l c z = z
 sized-carried Terminate l c z = z
 sized-carried Create l c z =

@@ -128,19 +128,12 @@ pub terminate-effect :
 unfolding everything
 terminate-effect = (refl, refl, refl)
 
--- "Login: current 0, read mark 0, write mark 15, automatic on"; a signal changes nothing
-pub login-and-signal :
-    of0 (login ∷ []) ∷ of0 (trustedLogin ∷ []) ∷ of1 (login ∷ [])
-    ∷ of0 (login ∷ call 2 0 1 0 ∷ call 16 0 1 0 ∷ []) ∷ of1 (login ∷ call 2 0 1 0 ∷ call 16 0 1 0 ∷ [])
-    -- the receiver, of another owner, stays as it is
-    ∷ of1 (login ∷ call 21 1 0 1 ∷ call 16 0 1 0 ∷ [])
-    ∷ []
-    ≡ (1 ∷ 0 ∷ 0 ∷ 0 ∷ 15 ∷ 1 ∷ []) ∷ (1 ∷ 1 ∷ 0 ∷ 0 ∷ 15 ∷ 1 ∷ []) ∷ replicate 6 0
-    ∷ (1 ∷ 0 ∷ 0 ∷ 0 ∷ 15 ∷ 1 ∷ []) ∷ (1 ∷ 0 ∷ 0 ∷ 0 ∷ 15 ∷ 1 ∷ [])
-    ∷ (1 ∷ 1 ∷ 0 ∷ 0 ∷ 15 ∷ 1 ∷ [])
-    ∷ []
+-- "Login: current 0, read mark 0, write mark 15, automatic on"
+pub login-effect :
+    of0 (login ∷ []) ∷ of0 (trustedLogin ∷ []) ∷ of1 (login ∷ []) ∷ []
+    ≡ (1 ∷ 0 ∷ 0 ∷ 0 ∷ 15 ∷ 1 ∷ []) ∷ (1 ∷ 1 ∷ 0 ∷ 0 ∷ 15 ∷ 1 ∷ []) ∷ replicate 6 0 ∷ []
 unfolding everything
-login-and-signal = refl
+login-effect = refl
 
 -- the move of each class, by each request that has it
 pub moves-enforced :

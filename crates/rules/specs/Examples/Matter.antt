@@ -19,6 +19,9 @@ sixObjects = record { next = 6; kinds = λ t. cond (eqb t 1) 1 0; objects = only
 abbrev acceptedCall : Call → Entry
 acceptedCall c = record { call = c; accepted = true }
 
+abbrev refusedCall : Call → Entry
+refusedCall c = record { call = c; accepted = false }
+
 -- whether object b holds the matter of a after these calls, all accepted
 abbrev held : List Call → ℕ → ℕ → Bool
 held cs b a = account sixObjects (map acceptedCall cs) .objects b a
@@ -149,6 +152,21 @@ pub login-and-clone :
 unfolding everything
 login-and-clone = refl
 
+-- "An accepted signal now carries: the receiver gains the sender's matter", beside what it held; all other sets are as before
+pub signals-carry :
+    members ((afterCall (call 16 0 1 0)) .processes 1) ∷ members ((afterCall (call 16 0 1 0)) .processes 0)
+    ∷ members ((afterCall (call 16 0 1 0)) .processes 2) ∷ members ((afterCall (call 16 0 1 0)) .objects 0)
+    ∷ members ((afterCall (call 16 0 1 0)) .objects 1)
+    -- the other way round; to a process that holds nothing; from one that does; to itself
+    ∷ members ((afterCall (call 16 1 0 0)) .processes 0) ∷ members ((afterCall (call 16 0 2 0)) .processes 2)
+    ∷ members ((afterCall (call 16 2 0 0)) .processes 0) ∷ members ((afterCall (call 16 0 0 0)) .processes 0)
+    ∷ []
+    ≡ numbers (8 ∷ 9 ∷ []) ∷ numbers (8 ∷ []) ∷ numbers [] ∷ numbers (0 ∷ []) ∷ numbers (1 ∷ [])
+    ∷ numbers (8 ∷ 9 ∷ []) ∷ numbers (8 ∷ []) ∷ numbers (8 ∷ []) ∷ numbers (8 ∷ [])
+    ∷ []
+unfolding everything
+signals-carry = refl
+
 -- what create with e leaves: the next number, the kinds of 3, 4 and 5, and what 1, 4 and process 0 hold
 abbrev createdKinds : ℕ → List ℕ
 createdKinds e =
@@ -171,18 +189,18 @@ pub creates :
 unfolding everything
 creates = (refl, refl)
 
--- "All else changes nothing": the whole account after B, close, delete, send-signal, set-level, terminate, the opens, and no request
+-- "All else changes nothing": the whole account after B, close, delete, set-level, terminate, the opens, and no request
 abbrev unchangedBy : Call → Type 0
 unchangedBy c = afterCall c ≡ fourKinds
 
 pub nothing-carried :
     unchangedBy (call 14 0 0 0) × unchangedBy (call 14 0 2 0) × unchangedBy (call 3 0 0 0) × unchangedBy (call 5 0 0 0)
-    × unchangedBy (call 16 0 1 0) × unchangedBy (call 17 0 1 0) × unchangedBy (call 18 0 1 0)
+    × unchangedBy (call 17 0 1 0) × unchangedBy (call 18 0 1 0)
     × unchangedBy (call 13 0 0 0) × unchangedBy (call 20 0 0 0) × unchangedBy (call 22 0 1 0)
     -- "A refused call changes nothing"
-    × (account fourKinds (record { call = call 12 0 0 0; accepted = false } ∷ record { call = call 4 0 1 0; accepted = false } ∷ []) ≡ fourKinds)
+    × (account fourKinds (map refusedCall (call 12 0 0 0 ∷ call 4 0 1 0 ∷ call 16 0 1 0 ∷ [])) ≡ fourKinds)
 unfolding everything
-nothing-carried = (refl, refl, refl, refl, refl, refl, refl, refl, refl, refl, refl)
+nothing-carried = (refl, refl, refl, refl, refl, refl, refl, refl, refl, refl)
 
 -- a set-up of a directory and a channel, MAC on, a user of clearance 2
 abbrev twoObjects : List ℕ

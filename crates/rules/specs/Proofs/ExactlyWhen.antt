@@ -6,37 +6,31 @@ use mathlib.Core.Bool.{true, false, cond}
 use mathlib.Core.List.{List, [], _∷_}
 use lib.Dec.{ltb, eqb}
 use native.Mathlib.Omega.{arith}
-use borrow.Author.Tests.{ltb-true, lt-ltb, eq-eqb}
-use Rattle.rules.specs.Types.{Granted, Call, Facility}
-use Rattle.labels.specs.Decisions.{_and_}
-use Rattle.labels.specs.Laws.Decisions.{and-i, or-r, by-test, by-eq}
-use Rattle.state.specs.Laws.ReadBack.{process-same, shaped-process}
-use Rattle.state.specs.State.{switchesOf, objectOf, trustedUser, labelOf, clearanceOf, putProcess, freshProcess}
+use borrow.Author.Tests.{ltb-true, leb-true, lt-ltb, eq-eqb}
+use Rattle.rules.specs.Types.{Call, Process, Facility}
+use Rattle.labels.specs.Decisions.{_and_, asked}
+use Rattle.labels.specs.Laws.Decisions.{and-i, or-l, or-r, by-test, by-eq}
+use Rattle.state.specs.Laws.ReadBack.{process-other}
+use Rattle.state.specs.State.{switchesOf, objectOf, runs, trustedUser, labelOf, clearanceOf, putProcess, freshProcess}
 use Rattle.opens.specs.Opens.{reading, writing}
-use Rattle.labels.specs.Labels.{lawful, given, _⊑_}
-use Rattle.labels.specs.Laws.Labels.{⊑-refl, join-least, bottom-least, below-lawful, lawful-given}
+use Rattle.labels.specs.Labels.{Label, lawful, given, _⊑_}
+use Rattle.labels.specs.Laws.Labels.{⊑-refl, eq-same, join-least, bottom-least, below-lawful, lawful-given, lawful-level}
 use Rattle.answers.specs.Answers.{passes}
 use Rattle.answers.specs.Laws.Answers.{grant-passes}
-use Rattle.rules.specs.Flow.{allFourBytes, loginsBy, MacAlone, Carries, ExactlyWhen}
-use Rattle.rules.specs.Effects.{effectFrom, effectBy}
-use Rattle.rules.specs.Calls.{accepted}
+use Rattle.rules.specs.Flow.{fourBytes, allFourBytes, loginsBy, MacAlone, Carries, ExactlyWhen}
 use Rattle.rules.specs.Histories.{trustedLogins, history}
-use Rattle.rules.specs.Requests.{Login, Reads, Writes, Both, NoCondition, Keep, Add, isLogin, actionOf}
+use Rattle.rules.specs.Requests.{Reads, Writes, Both, NoCondition, Keep, Add, isLogin, actionOf}
 use Rattle.rules.specs.Computed.{requestsComputed}
 use Rattle.rules.specs.Setup.{fresh}
-use Rattle.rules.specs.Matter.{Account, start, assign, carryBy, account}
-use Rattle.rules.specs.Modules.{viewOf, mayRead, mayWrite, macClass, macRule, answers, moveBy}
-use Rattle.rules.specs.Questions.{numberBy}
+use Rattle.rules.specs.Matter.{Account, start, assign, account}
+use Rattle.rules.specs.Modules.{mayRead, mayWrite, maySet, macClass, moveBy, setLevel, readMarkRaised}
 use Rattle.rules.specs.Proofs.Regular.{allowed-kind, allowed-clearance}
 use Rattle.rules.specs.Proofs.Kept.{kept-run}
 use Rattle.rules.specs.Proofs.Fresh.{Fresh, fresh-setup}
-use Rattle.rules.specs.Proofs.Witness.{by, alone-is, Scene, Reach, reach-call, carry-keeps, carry-keeps-object, carry-takes, carry-gives}
+use Rattle.rules.specs.Proofs.Witness.{by, Setting, Scene, Reach, carry-keeps, carry-keeps-object, carry-takes, carry-gives}
 use Rattle.rules.specs.Proofs.Witness.{reach-target, open-to-read, open-to-write}
 use Rattle.rules.specs.Proofs.OnlyWhen.{only-when}
-use Rattle.rules.specs.Proofs.Passed.{all-passed}
-
-login : ℕ → Call
-login u = record { request = 21; process = 0; target = 0; extra = u }
+use Rattle.rules.specs.Proofs.WitnessCalls.{loginAs, setTo, signal, kept-scene, other-kept, reach-login, reach-level, reach-signal}
 
 -- process 0 takes the matter of t, by its kind
 unfoldable pub readCalls : ℕ → ℕ → List Call → List Call
@@ -45,61 +39,56 @@ readCalls kind t rest =
     (cond (eqb kind 1) (by 0 12 t ∷ rest)
     (by 0 8 t ∷ rest))
 
--- process 0 gives its matter to t, by its kind
-unfoldable pub writeCalls : ℕ → ℕ → List Call
-writeCalls kind t =
-    cond (eqb kind 0) (by 0 20 t ∷ by 0 19 t ∷ [])
-    (cond (eqb kind 1) (by 0 19 t ∷ [])
-    (cond (eqb kind 2) (by 0 14 t ∷ by 0 19 t ∷ [])
-    (by 0 11 t ∷ [])))
+-- process p gives its matter to t, by its kind
+unfoldable pub writeCalls : ℕ → ℕ → ℕ → List Call
+writeCalls p kind t =
+    cond (eqb kind 0) (by p 20 t ∷ by p 19 t ∷ [])
+    (cond (eqb kind 1) (by p 19 t ∷ [])
+    (cond (eqb kind 2) (by p 14 t ∷ by p 19 t ∷ [])
+    (by p 11 t ∷ [])))
 
-no-bytes : allFourBytes [] ≡ true
-unfolding allFourBytes
-no-bytes = refl
+-- a list whose calls are four bytes each and whose logins are u's
+record Plain (u : ℕ) (cs : List Call) : Type 0 where
+  four : allFourBytes cs ≡ true
+  logins : loginsBy u cs ≡ true
 
-zero-bytes : (q t : ℕ) (cs : List Call) → ltb q 256 ≡ true → ltb t 256 ≡ true → allFourBytes cs ≡ true → allFourBytes (by 0 q t ∷ cs) ≡ true
-unfolding allFourBytes
-zero-bytes q t cs h k b = and-i _ _ (and-i _ _ h (and-i _ _ refl (and-i _ _ k refl))) b
-
-read-bytes : (kind t : ℕ) (rest : List Call) → ltb t 256 ≡ true → allFourBytes rest ≡ true → allFourBytes (readCalls kind t rest) ≡ true
-unfolding readCalls
-read-bytes kind t rest h b =
-    by-test (eqb kind 0) (λ e. rw e (zero-bytes 13 t _ refl h (zero-bytes 12 t _ refl h b)))
-    (λ e. by-test (eqb kind 1) (λ d. rw (e, d) (zero-bytes 12 t _ refl h b)) (λ d. rw (e, d) (zero-bytes 8 t _ refl h b)))
-
-write-bytes : (kind t : ℕ) → ltb t 256 ≡ true → allFourBytes (writeCalls kind t) ≡ true
-unfolding writeCalls
-write-bytes kind t h =
-    by-test (eqb kind 0) (λ e. rw e (zero-bytes 20 t _ refl h (zero-bytes 19 t [] refl h no-bytes)))
-    (λ e. by-test (eqb kind 1) (λ d. rw (e, d) (zero-bytes 19 t [] refl h no-bytes))
-    (λ d. by-test (eqb kind 2) (λ g. rw (e, d, g) (zero-bytes 14 t _ refl h (zero-bytes 19 t [] refl h no-bytes)))
-    (λ g. rw (e, d, g) (zero-bytes 11 t [] refl h no-bytes))))
-
--- a call that is no login asks nothing of the user
 module _ (u : ℕ) where
-  no-logins : loginsBy u [] ≡ true
-  unfolding loginsBy
-  no-logins = refl
+  plain-none : Plain u []
+  unfolding allFourBytes loginsBy
+  plain-none = record { four = refl; logins = refl }
 
-  no-login : (q t : ℕ) (cs : List Call) → isLogin (actionOf q) ≡ false → loginsBy u cs ≡ true → loginsBy u (by 0 q t ∷ cs) ≡ true
-  unfolding loginsBy
-  no-login q t cs h b = and-i _ _ (rw h) b
+  plain-more : (c : Call) (cs : List Call) → fourBytes c ≡ true → asked (isLogin (actionOf (c .request))) (eqb (c .extra) u) ≡ true → Plain u cs
+      → Plain u (c ∷ cs)
+  unfolding allFourBytes loginsBy
+  plain-more c cs h l P = record { four = and-i _ _ h (P .four); logins = and-i _ _ l (P .logins) }
 
-  read-logins : (kind t : ℕ) (rest : List Call) → loginsBy u rest ≡ true → loginsBy u (readCalls kind t rest) ≡ true
+  -- a call on an object by a process of a small number
+  plain-by : (p q t : ℕ) (cs : List Call) → ltb p 256 ≡ true → ltb q 256 ≡ true → isLogin (actionOf q) ≡ false → ltb t 256 ≡ true → Plain u cs
+      → Plain u (by p q t ∷ cs)
+  plain-by p q t cs hp hq l ht P = plain-more (by p q t) cs (and-i _ _ hq (and-i _ _ hp (and-i _ _ ht refl))) (rw l) P
+
+  plain-read : (kind t : ℕ) (rest : List Call) → ltb t 256 ≡ true → Plain u rest → Plain u (readCalls kind t rest)
   unfolding readCalls actionOf
-  read-logins kind t rest b =
-      by-test (eqb kind 0) (λ e. rw e (no-login 13 t _ refl (no-login 12 t _ refl b)))
-      (λ e. by-test (eqb kind 1) (λ d. rw (e, d) (no-login 12 t _ refl b)) (λ d. rw (e, d) (no-login 8 t _ refl b)))
+  plain-read kind t rest h P =
+      by-test (eqb kind 0) (λ e. rw e (plain-by 0 13 t _ refl refl refl h (plain-by 0 12 t _ refl refl refl h P)))
+      (λ e. by-test (eqb kind 1) (λ d. rw (e, d) (plain-by 0 12 t _ refl refl refl h P)) (λ d. rw (e, d) (plain-by 0 8 t _ refl refl refl h P)))
 
-  write-logins : (kind t : ℕ) → loginsBy u (writeCalls kind t) ≡ true
+  plain-write : (p kind t : ℕ) → ltb p 256 ≡ true → ltb t 256 ≡ true → Plain u (writeCalls p kind t)
   unfolding writeCalls actionOf
-  write-logins kind t =
-      by-test (eqb kind 0) (λ e. rw e (no-login 20 t _ refl (no-login 19 t [] refl no-logins)))
-      (λ e. by-test (eqb kind 1) (λ d. rw (e, d) (no-login 19 t [] refl no-logins))
-      (λ d. by-test (eqb kind 2) (λ g. rw (e, d, g) (no-login 14 t _ refl (no-login 19 t [] refl no-logins)))
-      (λ g. rw (e, d, g) (no-login 11 t [] refl no-logins))))
+  plain-write p kind t l h =
+      let P = plain-by p 19 t [] l refl refl h plain-none in
+      by-test (eqb kind 0) (λ e. rw e (plain-by p 20 t _ l refl refl h P))
+      (λ e. by-test (eqb kind 1) (λ d. rw (e, d) P)
+      (λ d. by-test (eqb kind 2) (λ g. rw (e, d, g) (plain-by p 14 t _ l refl refl h P))
+      (λ g. rw (e, d, g) (plain-by p 11 t [] l refl refl h plain-none))))
 
-module _ (f₀ : Facility) (F : Fresh f₀) (u x y : ℕ) (hx : x < f₀ .entered) (hy : y < f₀ .entered) (nx : (objectOf f₀ x) .kind ≢ 2)
+-- a list by which y comes to hold the matter of x
+record Found (f₀ : Facility) (u x y : ℕ) : Type 0 where
+  calls : List Call
+  plain : Plain u calls
+  reached : Reach f₀ (start f₀) calls y x
+
+module _ (f₀ : Facility) (F : Fresh f₀) (u x y : ℕ) (hx : x < f₀ .entered) (hy : y < f₀ .entered)
     (hu : u < f₀ .users) (tu : trustedUser f₀ u ≡ false) (cx : labelOf f₀ x ⊑ clearanceOf f₀ u) (cy : labelOf f₀ y ⊑ clearanceOf f₀ u)
     (below : labelOf f₀ x ⊑ labelOf f₀ y) where
   -- the labels are lawful, as the clearance is, so they are set
@@ -140,11 +129,11 @@ module _ (f₀ : Facility) (F : Fresh f₀) (u x y : ℕ) (hx : x < f₀ .entere
   small-y = omega (arith, F .regular .sound .entered)
 
   -- after the reading, process 0 holds x
-  reach-read : (f : Facility) (a : Account) (rest : List Call) → Scene 0 f₀ f a u (freshProcess u) → a .objects x x ≡ true
+  reach-read : (f : Facility) (a : Account) (rest : List Call) → (objectOf f₀ x) .kind ≢ 2 → Scene 0 f₀ f a u (freshProcess u) → a .objects x x ≡ true
       → ((g : Facility) (d : Account) → Scene 0 f₀ g d u (moveBy Reads (labelOf f₀ x) (freshProcess u)) → d .processes 0 x ≡ true → Reach g d rest y x)
       → Reach f a (readCalls ((objectOf f₀ x) .kind) x rest) y x
   unfolding readCalls requestsComputed macClass passes moveBy reading
-  reach-read f a rest S self K =
+  reach-read f a rest nx S self K =
       by-eq ((objectOf f₀ x) .kind) 0
       (λ e. rw e
       (reach-target 0 f₀ f a u (freshProcess u) 13 x Reads (Add 1) S
@@ -157,7 +146,7 @@ module _ (f₀ : Facility) (F : Fresh f₀) (u x y : ℕ) (hx : x < f₀ .entere
         alive = F .whole x hx;
         class = rw e refl;
         there = refl;
-        opened = open-to-read 0 f _ x 1 (S .shaped) (S .small) small-x refl;
+        opened = open-to-read 0 f _ x 1 (S .setting .shaped) (S .small) small-x refl;
         labelled = gx;
         granted = refl;
       })
@@ -177,13 +166,13 @@ module _ (f₀ : Facility) (F : Fresh f₀) (u x y : ℕ) (hx : x < f₀ .entere
       (λ S1. K _ _ S1 (carry-takes 0 a 8 x Reads x refl self)))))
 
   -- after the writing, y holds x
-  reach-write : (f : Facility) (a : Account) → Scene 0 f₀ f a u (moveBy Reads (labelOf f₀ x) (freshProcess u)) → a .processes 0 x ≡ true
-      → Reach f a (writeCalls ((objectOf f₀ y) .kind) y) y x
+  reach-write : (p : ℕ) (f : Facility) (a : Account) (r : Process) → Scene p f₀ f a u r → mayWrite (labelOf f₀ y) r (clearanceOf f₀ u) ≡ true
+      → a .processes p x ≡ true → Reach f a (writeCalls p ((objectOf f₀ y) .kind) y) y x
   unfolding writeCalls requestsComputed macClass passes writing trustedLogins account history _and_
-  reach-write f a S has =
+  reach-write p f a r S may has =
       by-eq ((objectOf f₀ y) .kind) 0
       (λ e. rw e
-      (reach-target 0 f₀ f a u _ 20 y Writes (Add 2) S
+      (reach-target p f₀ f a u r 20 y Writes (Add 2) S
       (record {
         target = refl;
         known = refl;
@@ -192,25 +181,25 @@ module _ (f₀ : Facility) (F : Fresh f₀) (u x y : ℕ) (hx : x < f₀ .entere
         there = refl;
         opened = refl;
         labelled = gy;
-        granted = grant-passes _ may-write;
+        granted = grant-passes _ may;
       })
-      refl refl (by 0 19 y ∷ []) y x
-      (λ S1. reach-target 0 f₀ _ _ u _ 19 y NoCondition Keep S1
+      refl refl (by p 19 y ∷ []) y x
+      (λ S1. reach-target p f₀ _ _ u _ 19 y NoCondition Keep S1
       (record {
         target = refl;
         known = refl;
         alive = F .whole y hy;
         class = rw e refl;
         there = refl;
-        opened = open-to-write 0 f _ y 2 (S .shaped) (S .small) small-y refl;
+        opened = open-to-write p f _ y 2 (S .setting .shaped) (S .small) small-y refl;
         labelled = gy;
         granted = refl;
       })
       refl refl [] y x
-      (λ S2. record { untrusted = refl; holding = carry-gives 0 _ 19 y NoCondition x refl refl (carry-keeps 0 a 20 y Writes x has) }))))
+      (λ S2. record { untrusted = refl; holding = carry-gives p _ 19 y NoCondition x refl refl (carry-keeps p a 20 y Writes x has) }))))
       (λ n0. by-eq ((objectOf f₀ y) .kind) 1
       (λ e. rw e
-      (reach-target 0 f₀ f a u _ 19 y Writes Keep S
+      (reach-target p f₀ f a u r 19 y Writes Keep S
       (record {
         target = refl;
         known = refl;
@@ -219,13 +208,13 @@ module _ (f₀ : Facility) (F : Fresh f₀) (u x y : ℕ) (hx : x < f₀ .entere
         there = refl;
         opened = refl;
         labelled = gy;
-        granted = grant-passes _ may-write;
+        granted = grant-passes _ may;
       })
       refl refl [] y x
-      (λ S1. record { untrusted = refl; holding = carry-gives 0 a 19 y Writes x refl refl has })))
+      (λ S1. record { untrusted = refl; holding = carry-gives p a 19 y Writes x refl refl has })))
       (λ n1. by-eq ((objectOf f₀ y) .kind) 2
       (λ e. rw e
-      (reach-target 0 f₀ f a u _ 14 y Both (Add 3) S
+      (reach-target p f₀ f a u r 14 y Both (Add 3) S
       (record {
         target = refl;
         known = refl;
@@ -234,25 +223,25 @@ module _ (f₀ : Facility) (F : Fresh f₀) (u x y : ℕ) (hx : x < f₀ .entere
         there = refl;
         opened = refl;
         labelled = gy;
-        granted = grant-passes _ may-write;
+        granted = grant-passes _ may;
       })
-      refl refl (by 0 19 y ∷ []) y x
-      (λ S1. reach-target 0 f₀ _ _ u _ 19 y NoCondition Keep S1
+      refl refl (by p 19 y ∷ []) y x
+      (λ S1. reach-target p f₀ _ _ u _ 19 y NoCondition Keep S1
       (record {
         target = refl;
         known = refl;
         alive = F .whole y hy;
         class = rw e refl;
         there = refl;
-        opened = open-to-write 0 f _ y 3 (S .shaped) (S .small) small-y refl;
+        opened = open-to-write p f _ y 3 (S .setting .shaped) (S .small) small-y refl;
         labelled = gy;
         granted = refl;
       })
       refl refl [] y x
-      (λ S2. record { untrusted = refl; holding = carry-gives 0 _ 19 y NoCondition x refl refl (carry-keeps 0 a 14 y Both x has) }))))
+      (λ S2. record { untrusted = refl; holding = carry-gives p _ 19 y NoCondition x refl refl (carry-keeps p a 14 y Both x has) }))))
       (λ n2. let e : (objectOf f₀ y) .kind ≡ 3 = omega (arith, kind-y) in
       rw e
-      (reach-target 0 f₀ f a u _ 11 y Writes Keep S
+      (reach-target p f₀ f a u r 11 y Writes Keep S
       (record {
         target = refl;
         known = refl;
@@ -261,85 +250,148 @@ module _ (f₀ : Facility) (F : Fresh f₀) (u x y : ℕ) (hx : x < f₀ .entere
         there = refl;
         opened = refl;
         labelled = gy;
-        granted = grant-passes _ may-write;
+        granted = grant-passes _ may;
       })
       refl refl [] y x
-      (λ S1. record { untrusted = refl; holding = carry-gives 0 a 11 y Writes x refl refl has })))))
+      (λ S1. record { untrusted = refl; holding = carry-gives p a 11 y Writes x refl refl has })))))
 
   module _ (A : MacAlone (switchesOf f₀)) where
-    login-combined : answers Login (viewOf f₀ (login u)) (login u) .combined ≡ Granted
-    unfolding macRule
-    login-combined = alone-is Login (viewOf f₀ (login u)) (login u) A
-
-    login-number : numberBy Login (viewOf f₀ (login u)) (login u) ≡ 0
-    unfolding login passes
-    login-number =
-        all-passed Login (viewOf f₀ (login u)) (login u)
-        (record {
-          known = refl;
-          process = omega arith;
-          cloned = refl;
-          signalled = refl;
-          running = refl;
-          receiver = refl;
-          newLogin = rw (F .stopped 0);
-          newClone = refl;
-          user = lt-ltb _ _ hu;
-          kind = refl;
-          alive = refl;
-          class = refl;
-          opened = refl;
-          room = refl;
-          level = refl;
-          answer = rw login-combined;
-        })
-
-    login-accepted : accepted f₀ (login u) ≡ true
-    unfolding accepted actionOf login
-    login-accepted = rw login-number
-
-    login-scene : Scene 0 f₀ (effectBy Login f₀ (login u)) (carryBy Login (start f₀) (login u)) u (freshProcess u)
-    unfolding effectFrom carryBy assign start login putProcess freshProcess
-    login-scene =
+    at-start : Setting f₀ f₀ (start f₀) u
+    unfolding start
+    at-start =
         record {
-          small = omega arith;
-          shaped = shaped-process f₀ 0 _ (F .regular .sound .shaped);
+          shaped = F .regular .sound .shaped;
           alone = A;
           objects = λ t. refl;
+          known = hu;
           user = refl;
           untrusted = tu;
-          process = process-same f₀ 0 (freshProcess u) (F .regular .sound .shaped) (omega arith);
-          running = refl;
-          owner = refl;
           kinds = λ t. refl;
         }
 
-    holds-itself : (carryBy Login (start f₀) (login u)) .objects x x ≡ true
-    unfolding carryBy assign start
+    holds-itself : start f₀ .objects x x ≡ true
+    unfolding start
     holds-itself = rw (lt-ltb x (f₀ .entered) hx) (eq-eqb x x refl)
 
-    witness : List Call
-    witness = login u ∷ readCalls ((objectOf f₀ x) .kind) x (writeCalls ((objectOf f₀ y) .kind) y)
+    -- x no channel: process 0 reads it and writes y
+    direct : List Call
+    direct = loginAs 0 u ∷ readCalls ((objectOf f₀ x) .kind) x (writeCalls 0 ((objectOf f₀ y) .kind) y)
 
-    reach-all : Reach f₀ (start f₀) witness y x
-    unfolding witness _and_ login actionOf
-    reach-all =
-        reach-call f₀ (start f₀) (login u) Login _ y x refl login-accepted tu
-        (reach-read _ _ _ login-scene holds-itself (λ g d S h. reach-write g d S h))
+    reach-direct : (objectOf f₀ x) .kind ≢ 2 → Reach f₀ (start f₀) direct y x
+    unfolding direct assign
+    reach-direct nx =
+        reach-login 0 f₀ f₀ (start f₀) u at-start (omega arith) (F .stopped 0) _ y x
+        (λ S. reach-read _ _ _ nx S holds-itself (λ g d S1 h. reach-write 0 g d _ S1 may-write h))
 
-    witness-bytes : allFourBytes witness ≡ true
-    unfolding witness allFourBytes login
-    witness-bytes =
-        and-i _ _ (and-i _ _ refl (and-i _ _ refl (and-i _ _ refl (lt-ltb u 256 (omega (arith, F .regular .sound .users))))))
-        (read-bytes _ x _ (lt-ltb x 256 (omega (arith, F .regular .sound .entered)))
-        (write-bytes _ y (lt-ltb y 256 (omega (arith, F .regular .sound .entered)))))
+    -- x a channel: process 1 sets its level to x's, process 0 reads x and signals, process 1 sets its level to y's and writes y
+    abbrev toReceiver : List Call
+    toReceiver = by 0 14 x ∷ by 0 12 x ∷ signal 0 1 ∷ setTo 1 (labelOf f₀ y) ∷ writeCalls 1 ((objectOf f₀ y) .kind) y
 
-    witness-logins : loginsBy u witness ≡ true
-    unfolding witness loginsBy login actionOf
-    witness-logins = and-i _ _ (eq-eqb u u refl) (read-logins u _ x _ (write-logins u _ y))
+    bySignal : List Call
+    bySignal = loginAs 1 u ∷ setTo 1 (labelOf f₀ x) ∷ loginAs 0 u ∷ toReceiver
+
+    -- the receiver before the signal, and after it
+    abbrev waiting : Process
+    waiting = setLevel (labelOf f₀ x) (freshProcess u)
+
+    may-wait : maySet (labelOf f₀ x) (freshProcess u) (clearanceOf f₀ u) ≡ true
+    unfolding maySet freshProcess
+    may-wait = and-i _ _ (bottom-least _) (and-i _ _ lx cx)
+
+    may-rise : maySet (labelOf f₀ y) (readMarkRaised waiting) (clearanceOf f₀ u) ≡ true
+    unfolding maySet freshProcess setLevel
+    may-rise = and-i _ _ below (and-i _ _ ly cy)
+
+    may-write-there : (l : Label) (r : Process) → mayWrite l (setLevel l r) (clearanceOf f₀ u) ≡ true
+    unfolding mayWrite setLevel
+    may-write-there l r = or-l _ _ (eq-same l l refl)
+
+    may-open : passes (macClass Both (labelOf f₀ x) (freshProcess u) (clearanceOf f₀ u)) ≡ true
+    unfolding macClass mayWrite freshProcess
+    may-open = grant-passes _ (or-r _ _ (and-i _ _ refl (and-i _ _ (bottom-least _) (and-i _ _ lx cx))))
+
+    -- from process 0 just logged in and process 1 waiting
+    reach-channel : (f : Facility) (a : Account) → (objectOf f₀ x) .kind ≡ 2 → Scene 0 f₀ f a u (freshProcess u) → Scene 1 f₀ f a u waiting
+        → a .objects x x ≡ true → Reach f a toReceiver y x
+    unfolding requestsComputed passes moveBy reading setLevel macClass
+    reach-channel f a e S Q own =
+        reach-target 0 f₀ f a u (freshProcess u) 14 x Both (Add 3) S
+        (record { target = refl; known = refl; alive = F .whole x hx; class = rw e refl; there = refl; opened = refl; labelled = gx; granted = may-open })
+        refl refl _ y x
+        (λ S1.
+        let Q1 = kept-scene 1 f₀ _ _ _ _ u _ Q (S1 .setting) (other-kept (Add 3) f 0 x 1 _ (omega arith)) in
+        reach-target 0 f₀ _ _ u _ 12 x NoCondition Keep S1
+        (record {
+          target = refl;
+          known = refl;
+          alive = F .whole x hx;
+          class = rw e refl;
+          there = refl;
+          opened = open-to-read 0 f _ x 3 (S .setting .shaped) (S .small) small-x refl;
+          labelled = gx;
+          granted = refl;
+        })
+        refl refl _ y x
+        (λ S2.
+        let Q2 = kept-scene 1 f₀ _ _ _ _ u _ Q1 (S2 .setting) (other-kept Keep _ 0 x 1 _ (omega arith)) in
+        reach-signal 0 1 f₀ _ _ u _ _ S2 Q2 refl _ y x (carry-takes 0 _ 12 x NoCondition x refl (carry-keeps-object 0 a 14 x Both x x own))
+        (λ S3 has. reach-level 1 f₀ _ _ u _ (labelOf f₀ y) S3 (lawful-level _ ly) may-rise _ y x
+        (λ S4. reach-write 1 _ _ _ S4 (may-write-there (labelOf f₀ y) (readMarkRaised waiting)) has))))
+
+    -- while process 1 logs in and sets its level, process 0 does not run
+    stopped-still : (r s : Process) → runs (putProcess (putProcess f₀ 1 r) 1 s) 0 ≡ false
+    stopped-still r s =
+        rw (process-other (putProcess f₀ 1 r) 1 0 s (omega arith), process-other f₀ 1 0 r (omega arith)) (F .stopped 0)
+
+    reach-by-signal : (objectOf f₀ x) .kind ≡ 2 → Reach f₀ (start f₀) bySignal y x
+    unfolding bySignal assign
+    reach-by-signal e =
+        reach-login 1 f₀ f₀ (start f₀) u at-start (omega arith) (F .stopped 1) _ y x
+        (λ S1. reach-level 1 f₀ _ _ u _ (labelOf f₀ x) S1 (lawful-level _ lx) may-wait _ y x
+        (λ S2. reach-login 0 f₀ _ _ u (S2 .setting) (omega arith) (stopped-still _ _) _ y x
+        (λ S3.
+        let Q3 = kept-scene 1 f₀ _ _ _ _ u _ S2 (S3 .setting) (process-other _ 0 1 (freshProcess u) (omega arith)) in
+        reach-channel _ _ e S3 Q3 holds-itself)))
+
+    byte-u : ltb u 256 ≡ true
+    byte-u = lt-ltb u 256 (omega (arith, F .regular .sound .users))
+
+    byte-x : ltb x 256 ≡ true
+    byte-x = lt-ltb x 256 (omega (arith, small-x))
+
+    byte-y : ltb y 256 ≡ true
+    byte-y = lt-ltb y 256 (omega (arith, small-y))
+
+    plain-login : (p : ℕ) (cs : List Call) → ltb p 256 ≡ true → Plain u cs → Plain u (loginAs p u ∷ cs)
+    unfolding actionOf
+    plain-login p cs h P = plain-more u (loginAs p u) cs (and-i _ _ refl (and-i _ _ h (and-i _ _ refl byte-u))) (eq-eqb u u refl) P
+
+    plain-level : (p : ℕ) (l : Label) (cs : List Call) → ltb p 256 ≡ true → lawful l ≡ true → Plain u cs → Plain u (setTo p l ∷ cs)
+    unfolding actionOf
+    plain-level p l cs h k P =
+        let b : l .level ≤ 15 = leb-true _ _ (lawful-level l k) in
+        plain-more u (setTo p l) cs (and-i _ _ refl (and-i _ _ h (and-i _ _ refl (lt-ltb (l .level) 256 (omega arith))))) refl P
+
+    plain-direct : Plain u direct
+    unfolding direct
+    plain-direct = plain-login 0 _ refl (plain-read u _ x _ byte-x (plain-write u 0 _ y refl byte-y))
+
+    plain-by-signal : Plain u bySignal
+    unfolding bySignal actionOf _and_
+    plain-by-signal =
+        plain-login 1 _ refl (plain-level 1 (labelOf f₀ x) _ refl lx (plain-login 0 _ refl
+        (plain-by u 0 14 x _ refl refl refl byte-x (plain-by u 0 12 x _ refl refl refl byte-x
+        (plain-more u (signal 0 1) _ refl refl (plain-level 1 (labelOf f₀ y) _ refl ly (plain-write u 1 _ y refl byte-y)))))))
+
+    -- the list by the kind of x
+    found : Found f₀ u x y
+    found =
+        by-eq ((objectOf f₀ x) .kind) 2
+        (λ e. record { calls = bySignal; plain = plain-by-signal; reached = reach-by-signal e })
+        (λ n. record { calls = direct; plain = plain-direct; reached = reach-direct n })
 
 pub exactly-when : ExactlyWhen
-exactly-when s A a b ha hb na u C = (rises, falls)
+exactly-when s A a b ha hb u C = (rises, falls)
   where
     rises : Carries s u a b → labelOf (fresh s) a ⊑ labelOf (fresh s) b
     rises W =
@@ -350,13 +402,11 @@ exactly-when s A a b ha hb na u C = (rises, falls)
 
     falls : labelOf (fresh s) a ⊑ labelOf (fresh s) b → Carries s u a b
     falls h =
-        let F = fresh-setup s in
-        let hu = ltb-true _ _ (C .user) in
-        let R = reach-all (fresh s) F u a b ha hb na hu (C .untrusted) (C .first) (C .second) h A in
+        let W = found (fresh s) (fresh-setup s) u a b ha hb (ltb-true _ _ (C .user)) (C .untrusted) (C .first) (C .second) h A in
         record {
-          calls = witness (fresh s) F u a b ha hb na hu (C .untrusted) (C .first) (C .second) h A;
-          four = witness-bytes (fresh s) F u a b ha hb na hu (C .untrusted) (C .first) (C .second) h A;
-          logins = witness-logins (fresh s) F u a b ha hb na hu (C .untrusted) (C .first) (C .second) h A;
-          untrusted = R .untrusted;
-          holding = R .holding;
+          calls = W .calls;
+          four = W .plain .four;
+          logins = W .plain .logins;
+          untrusted = W .reached .untrusted;
+          holding = W .reached .holding;
         }

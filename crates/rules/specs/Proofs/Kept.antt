@@ -43,7 +43,7 @@ kept-effect : (k : Action) (f : Facility) (c : Call) (t : ℕ) → t < f .entere
 unfolding effectFrom putProcess putOpens
 kept-effect Login f c t h = record { inside = h; label = refl }
 kept-effect Clone f c t h = record { inside = h; label = refl }
-kept-effect SendSignal f c t h = kept f t h
+kept-effect SendSignal f c t h = record { inside = h; label = refl }
 kept-effect Unknown f c t h = kept f t h
 kept-effect SetLevel f c t h = record { inside = h; label = refl }
 kept-effect Terminate f c t h = record { inside = h; label = refl }

@@ -11,9 +11,10 @@ use Rattle.labels.specs.Labels.{Label, label, given, _⊑_}
 use Rattle.labels.specs.Laws.Labels.{⊑-refl, ⊑-trans, same-eq, join-l, join-r, join-least, meet-l, meet-r, meet-greatest}
 use Rattle.answers.specs.Answers.{passes}
 use Rattle.answers.specs.Laws.Answers.{passes-grant}
-use Rattle.rules.specs.Requests.{Class, Absent, Reads, Writes, Both, NoCondition, observes, alters}
+use Rattle.rules.specs.Requests.{SendSignal, Class, Absent, Reads, Writes, Both, NoCondition, observes, alters}
 use Rattle.rules.specs.Matter.{Set, Account}
-use Rattle.rules.specs.Modules.{View, classIn, mayRead, mayWrite, maySet, macClass, macObject, moveBy, setLevel, moved, levelled}
+use Rattle.rules.specs.Modules.{View, classIn, mayRead, mayWrite, maySet, macClass, macObject, macSignal, macRule, moveBy, setLevel, moved, levelled}
+use Rattle.rules.specs.Modules.{signalled}
 use Rattle.rules.specs.Proofs.Invariant.{Ordered, Knows, Fits, Inv, inv-process}
 
 -- a process after a move: the marks only close in
@@ -138,6 +139,24 @@ pub moved-is : (v : View) (c : Call) → on (v .switches .mac) ≡ true → on (
     → moved v c ≡ moveBy (classIn v c) (v .target .object .label) (v .caller)
 unfolding moved _and_
 moved-is v c m u = rw (m, u)
+
+-- a signal is a move of its receiver, after which its read mark is its current level
+pub signalled-moved : (v : View) → on (v .switches .mac) ≡ true → on (v .target .owner .trusted) ≡ false → Ordered (v .target .receiver)
+    → Moved (v .target .receiver) (signalled v)
+unfolding signalled _and_
+signalled-moved v m u o =
+    rw (m, u) (record { running = refl; owner = refl; up = o .low; down = ⊑-refl _; ordered = record { low = ⊑-refl _; high = o .high } })
+
+pub signalled-mark : (v : View) → on (v .switches .mac) ≡ true → on (v .target .owner .trusted) ≡ false
+    → (signalled v) .readmark ≡ v .target .receiver .current
+unfolding signalled _and_
+signalled-mark v m u = rw (m, u)
+
+-- a granted signal of an untrusted sender: both current levels are equal
+pub signal-level : (v : View) (c : Call) → on (v .owner .trusted) ≡ false → passes (macRule SendSignal v c) ≡ true
+    → v .caller .current ≡ v .target .receiver .current
+unfolding macRule macSignal
+signal-level v c u h = or-cases _ _ (passes-grant _ h) (λ e. clash e u) (λ e. same-eq _ _ e)
 
 -- set-level is a move
 pub levelled-moved : (v : View) (c : Call) → on (v .switches .mac) ≡ true

@@ -21,6 +21,7 @@ use Rattle.rules.specs.Calls.{ownerIn, accepted, afterRefusal, after}
 use Rattle.rules.specs.Requests.{Action, Login, Clone, SendSignal, SetLevel, Terminate, Create, OnObject, Unknown, Class, Absent, Reads, Writes, Both}
 use Rattle.rules.specs.Requests.{NoCondition, OpenChange, Keep, Add, Close, CloseAll, actionOf, actionCode, isLogin, isClone, inDirectory, openChange}
 use Rattle.rules.specs.Modules.{View, viewOf, classIn, macRule, macAnswer, fcAnswer, simAnswer, ffAnswer, answers, moveBy, setLevel, moved, levelled}
+use Rattle.rules.specs.Modules.{signalled}
 use Rattle.rules.specs.Questions.{runsOf, isRunning, numberBy, number}
 use Rattle.rules.specs.Proofs.Passed.{Passed, passed, accepted-zero}
 use Rattle.rules.specs.Proofs.Sound.{Sound}
@@ -73,7 +74,13 @@ levelled-owner : (v : View) (c : Call) → SameOwner (levelled v c) (v .caller)
 unfolding levelled setLevel
 levelled-owner v c = by-test (on (v .switches .mac)) (λ e. rw e (record { running = refl; owner = refl })) (λ e. rw e (same-owner (v .caller)))
 
--- the caller, moved
+signalled-owner : (v : View) → SameOwner (signalled v) (v .target .receiver)
+unfolding signalled
+signalled-owner v =
+    by-test (on (v .switches .mac) and not (on (v .target .owner .trusted)))
+    (λ e. rw e (record { running = refl; owner = refl })) (λ e. rw e (same-owner (v .target .receiver)))
+
+-- a process, moved
 move-put : (P : ℕ → ℕ → Type 0) (f : Facility) (p : ℕ) (r : Process) → Shaped f → p < mostProcesses → SameOwner r (processOf f p) → Owner P f
     → Owner P (putProcess f p r)
 move-put P f p r s h e O =
@@ -103,7 +110,8 @@ unfolding effectFrom putOpens freshProcess noProcess
 owner-effect P Login f c s q a b o = put-owner P f (c .process) _ s (q .process) (λ r. a refl) (λ p n. o p (λ z. n) (λ z. clash z refl))
 owner-effect P Clone f c s q a b o =
     put-owner P f (c .target) _ s (ltb-true _ _ (q .cloned)) (λ r. b refl r) (λ p n. o p (λ z. clash z refl) (λ z. n))
-owner-effect P SendSignal f c s q a b o = λ p. o p (λ z. clash z refl) (λ z. clash z refl)
+owner-effect P SendSignal f c s q a b o =
+    move-put P f (c .target) _ s (ltb-true _ _ (q .signalled)) (signalled-owner (viewOf f c)) (λ p. o p (λ z. clash z refl) (λ z. clash z refl))
 owner-effect P Unknown f c s q a b o = λ p. o p (λ z. clash z refl) (λ z. clash z refl)
 owner-effect P SetLevel f c s q a b o =
     move-put P f (c .process) _ s (q .process) (levelled-owner (viewOf f c) c) (λ p. o p (λ z. clash z refl) (λ z. clash z refl))

@@ -12,8 +12,9 @@ use Rattle.opens.specs.Opens.{mostProcesses, mostObjects}
 use Rattle.answers.specs.Answers.{passes}
 use Rattle.answers.specs.Laws.Answers.{neither-passes, passes-not-granted, passes-undefined, passes-first}
 use Rattle.rules.specs.Calls.{accepted}
-use Rattle.rules.specs.Requests.{Action, lastRequest, isAbsent, isNoCondition, isLogin, isClone, isSendSignal, isSetLevel, isCreate, needsObject}
-use Rattle.rules.specs.Modules.{View, classIn, macRule, macAnswer, answers}
+use Rattle.rules.specs.Requests.{Action, lastRequest, actionOf, isAbsent, isNoCondition, isLogin, isClone, isSendSignal, isSetLevel}
+use Rattle.rules.specs.Requests.{isCreate, needsObject}
+use Rattle.rules.specs.Modules.{View, viewOf, classIn, macRule, macAnswer, answers}
 use Rattle.rules.specs.Questions.{inRange, isRunning, isFree, openFor, roomFor, numberBy, number}
 
 pub record Passed (k : Action) (v : View) (c : Call) : Type 0 where
@@ -87,6 +88,11 @@ all-passed k v c q =
     (ask-i _ _ _ (q .level)
     (ask-i _ _ _ (rw (passes-not-granted _ (q .answer)))
     (ask-i _ _ _ (rw (passes-undefined _ (q .answer))) refl))))))))))))
+
+-- such a call is accepted
+pub accepted-by : (f : Facility) (c : Call) (k : Action) → actionOf (c .request) ≡ k → Passed k (viewOf f c) c → accepted f c ≡ true
+unfolding accepted
+accepted-by f c k e q = rw (e, all-passed k (viewOf f c) c q)
 
 -- with MAC on, its rule granted the call
 pub mac-passed : (k : Action) (v : View) (c : Call) → Passed k v c → on (v .switches .mac) ≡ true → passes (macRule k v c) ≡ true

@@ -3,7 +3,7 @@
 use Prim.Native.Nat.{ℕ, _+_, _-_, _≤_, _<_}
 use mathlib.Core.Path.{_≡_, refl, ap, subst⁻¹, _∙_}
 use mathlib.Core.Logic.{_≢_}
-use mathlib.Core.Bool.{true, false}
+use mathlib.Core.Bool.{true, false, not}
 use mathlib.Core.List.{List, [], _∷_}
 use lib.Dec.{leb, ltb}
 use lib.ListN.{length, length-set}
@@ -28,7 +28,7 @@ use Rattle.rules.specs.Requests.{Action, Login, Clone, SendSignal, SetLe
 use Rattle.rules.specs.Requests.{Both, NoCondition, OpenChange, Keep, Add, Close, CloseAll, actionOf, inDirectory, openChange}
 use Rattle.rules.specs.Kinds.{switchesKind, usersKind, objectsKind, allowedBy}
 use Rattle.rules.specs.Setup.{switchesRecord, userRecord, objectRecord}
-use Rattle.rules.specs.Modules.{View, viewOf, classIn, macObject, macRule, moveBy, setLevel, moved, levelled}
+use Rattle.rules.specs.Modules.{View, viewOf, classIn, macObject, macRule, moveBy, setLevel, moved, levelled, signalled}
 use Rattle.rules.specs.Questions.{number}
 use Rattle.rules.specs.Proofs.Moves.{object-granted}
 use Rattle.rules.specs.Proofs.Classes.{request-create, create-directory}
@@ -229,6 +229,14 @@ levelled-lawful v c L h =
     (λ m. rw m (record { current = level-lawful _ h; readmark = L .readmark; writemark = L .writemark }))
     (λ m. rw m L)
 
+-- and a signal's receiver
+signalled-lawful : (v : View) → LawfulProcess (v .target .receiver) → LawfulProcess (signalled v)
+unfolding signalled
+signalled-lawful v L =
+    by-test (on (v .switches .mac) and not (on (v .target .owner .trusted)))
+    (λ e. rw e (record { current = L .current; readmark = L .current; writemark = L .writemark }))
+    (λ e. rw e L)
+
 -- what a request on an object does to the opens keeps it
 regular-open : (o : OpenChange) (f : Facility) (p t : ℕ) → Regular f → Regular (openBy o f p t)
 unfolding openBy
@@ -282,7 +290,8 @@ module _ (f : Facility) (c : Call) (R : Regular f) where
   regular-effect Clone k q =
       regular-opens _ _ (length-process-copied _ _ _ ∙ R .sound .shaped .opens)
       (regular-process f (c .target) _ R (ltb-true _ _ (q .cloned)) (R .process (c .process)))
-  regular-effect SendSignal k q = R
+  regular-effect SendSignal k q =
+      regular-process f (c .target) _ R (ltb-true _ _ (q .signalled)) (signalled-lawful (viewOf f c) (R .process (c .target)))
   regular-effect SetLevel k q =
       regular-process f (c .process) _ R (q .process) (levelled-lawful (viewOf f c) c (R .process (c .process)) (q .level))
   regular-effect Terminate k q =

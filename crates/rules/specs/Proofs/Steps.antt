@@ -8,7 +8,7 @@ use native.Mathlib.Omega.{arith}
 use borrow.Author.Tests.{ltb-true, eqb-true, not-true, eq-eqb, ne-eqb}
 use Rattle.rules.specs.Types.{Call, Process, Facility}
 use Rattle.labels.specs.Decisions.{_and_, at}
-use Rattle.labels.specs.Laws.Decisions.{clash, by-test}
+use Rattle.labels.specs.Laws.Decisions.{or-cases, clash, by-test}
 use Rattle.state.specs.Laws.ReadBack.{process-same, process-other, add-object, opens-put}
 use Rattle.opens.specs.Laws.Opens.{terminated-opens}
 use Rattle.answers.specs.Outcomes.{denies}
@@ -25,9 +25,10 @@ use Rattle.rules.specs.Requests.{Action, Login, Clone, SendSignal, SetLe
 use Rattle.rules.specs.Requests.{Both, NoCondition, OpenChange, Keep, Add, Close, CloseAll, actionOf, isAbsent, isNoCondition, alters, isLogin}
 use Rattle.rules.specs.Requests.{inDirectory, openChange}
 use Rattle.rules.specs.Matter.{nothing, Account, processGains, objectGains, assign, takes, gives, carry, carryBy, afterEntry}
-use Rattle.rules.specs.Modules.{viewOf, classIn, macObject, macRule, moved, levelled}
+use Rattle.rules.specs.Modules.{viewOf, classIn, macObject, macRule, moved, levelled, signalled}
 use Rattle.rules.specs.Questions.{openFor, number}
 use Rattle.rules.specs.Proofs.Moves.{Moved, Closed, move-moved, move-closed, move-over, inv-move, object-granted, moved-is, levelled-moved}
+use Rattle.rules.specs.Proofs.Moves.{signalled-moved, signalled-mark, signal-level}
 use Rattle.rules.specs.Proofs.Invariant.{Knows, Reaches, FitsAt, Inv, inv-process, inv-drop, inv-counted, inv-take, inv-give, inv-assign, inv-enter}
 use Rattle.rules.specs.Proofs.Opens.{not-reading, not-writing, inv-add, inv-close, inv-close-object, inv-close-process, inv-copy}
 use Rattle.rules.specs.Proofs.Classes.{class-create, request-create, add-reads, add-writes}
@@ -113,6 +114,42 @@ unfolding effectFrom carryBy macRule
 step-set-level f a c I q =
     inv-move f a (c .process) (levelled (viewOf f c) c) I (q .process) (levelled-moved (viewOf f c) c (I .mac)
     (passes-grant _ (mac-passed SetLevel (viewOf f c) c q (I .mac))))
+
+step-signal : (f : Facility) (a : Account) (c : Call) → Inv f a → Passed SendSignal (viewOf f c) c
+    → Inv (effectBy SendSignal f c) (carryBy SendSignal a c)
+unfolding effectFrom carryBy putProcess
+step-signal f a c I q =
+    inv-assign (putProcess f t (signalled (viewOf f c))) a t _ raised
+    (λ x r m. or-cases _ _ m
+    (λ own. raised .process t .knows x r own)
+    (λ new.
+    let K = I .process p .knows x (q .running) new in
+    rw now (record {
+      inside = K .inside;
+      labelled = K .labelled;
+      below = rw (signalled-mark (viewOf f c) (I .mac) ut, ← level) (⊑-trans _ _ _ (K .below) (I .process p .ordered (q .running) .low));
+    })))
+  where
+    p : ℕ
+    p = c .process
+
+    t : ℕ
+    t = c .target
+
+    small-t : t < mostProcesses
+    small-t = ltb-true _ _ (q .signalled)
+
+    ut : trustedUser f ((processOf f (c .target)) .owner) ≡ false
+    ut = I .process t .owner (q .receiver)
+
+    level : viewOf f c .caller .current ≡ viewOf f c .target .receiver .current
+    level = signal-level (viewOf f c) c (I .process p .owner (q .running)) (mac-passed SendSignal (viewOf f c) c q (I .mac))
+
+    raised : Inv (putProcess f t (signalled (viewOf f c))) a
+    raised = inv-move f a t (signalled (viewOf f c)) I small-t (signalled-moved (viewOf f c) (I .mac) ut (I .process t .ordered (q .receiver)))
+
+    now : processOf (putProcess f t (signalled (viewOf f c))) t ≡ signalled (viewOf f c)
+    now = process-same f t (signalled (viewOf f c)) (I .sound .shaped) small-t
 
 -- a granted call on an object by an untrusted caller
 record Granted-on (f : Facility) (c : Call) : Type 0 where
@@ -278,7 +315,7 @@ step : (k : Action) (f : Facility) (a : Account) (c : Call) → Inv f a → acti
 unfolding effectFrom carryBy _and_
 step Login f a c I e u q = step-login f a c I q u
 step Clone f a c I e u q = step-clone f a c I q
-step SendSignal f a c I e u q = I
+step SendSignal f a c I e u q = step-signal f a c I q
 step SetLevel f a c I e u q = step-set-level f a c I q
 step Terminate f a c I e u q = step-terminate f a c I q
 step Create f a c I e u q = step-create f a c I e q

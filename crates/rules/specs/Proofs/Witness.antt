@@ -27,8 +27,8 @@ use Rattle.rules.specs.Requests.{Action, OnObject, Class, Absent, Reads,
 use Rattle.rules.specs.Requests.{lastRequest, actionOf, classOf, isAbsent, isNoCondition, isLogin, openChange}
 use Rattle.rules.specs.Matter.{Account, processGains, objectGains, takes, gives, carry, carryBy, afterEntry, account}
 use Rattle.rules.specs.Modules.{View, viewOf, classIn, macClass, macObject, macRule, macAnswer, fcAnswer, simAnswer, ffAnswer, answers, moveBy, moved}
-use Rattle.rules.specs.Questions.{openFor, numberBy}
-use Rattle.rules.specs.Proofs.Passed.{all-passed}
+use Rattle.rules.specs.Questions.{openFor}
+use Rattle.rules.specs.Proofs.Passed.{accepted-by}
 
 -- request r by process p on object t
 abbrev pub by : ℕ → ℕ → ℕ → Call
@@ -62,18 +62,44 @@ pub alone-is : (k : Action) (v : View) (c : Call) → MacAlone (v .switches) →
 unfolding answers answersFrom macAnswer fcAnswer simAnswer ffAnswer _and_
 alone-is k v c A = rw (A .mac, A .fc, A .sim, A .ff) (combine-not-cared _)
 
--- a state on the way, from the set-up's facility f₀: MAC alone is on, the objects are those of f₀, process p is r and its owner u
-pub record Scene (p : ℕ) (f₀ f : Facility) (a : Account) (u : ℕ) (r : Process) : Type 0 where
-  pub small : p < mostProcesses
+-- a state on the way, from the set-up's facility f₀: MAC alone is on, the objects are those of f₀, and u is an untrusted user
+pub record Setting (f₀ f : Facility) (a : Account) (u : ℕ) : Type 0 where
   pub shaped : Shaped f
   pub alone : MacAlone (switchesOf f)
   pub objects : (t : ℕ) → objectOf f t ≡ objectOf f₀ t
+  pub known : u < f .users
   pub user : userOf f u ≡ userOf f₀ u
   pub untrusted : trustedUser f₀ u ≡ false
+  pub kinds : (t : ℕ) → a .kinds t ≡ (objectOf f₀ t) .kind
+
+-- and in it process p is r, and its owner u
+pub record Scene (p : ℕ) (f₀ f : Facility) (a : Account) (u : ℕ) (r : Process) : Type 0 where
+  pub small : p < mostProcesses
+  pub setting : Setting f₀ f a u
   pub process : processOf f p ≡ r
   pub running : on (r .running) ≡ true
   pub owner : r .owner ≡ u
-  pub kinds : (t : ℕ) → a .kinds t ≡ (objectOf f₀ t) .kind
+
+-- a process is put
+pub put-scene : (p : ℕ) (f₀ f : Facility) (a b : Account) (u : ℕ) (r : Process) → Setting f₀ f a u → p < mostProcesses → on (r .running) ≡ true
+    → r .owner ≡ u → ((t : ℕ) → b .kinds t ≡ a .kinds t) → Scene p f₀ (putProcess f p r) b u r
+unfolding putProcess
+put-scene p f₀ f a b u r T h run own k =
+    record {
+      small = h;
+      setting = record {
+        shaped = shaped-process f p r (T .shaped);
+        alone = T .alone;
+        objects = T .objects;
+        known = T .known;
+        user = T .user;
+        untrusted = T .untrusted;
+        kinds = λ t. k t ∙ T .kinds t;
+      };
+      process = process-same f p r (T .shaped) h;
+      running = run;
+      owner = own;
+    }
 
 -- what request q of class k by process p, which is r, on object t needs
 pub record Allowed (p : ℕ) (f₀ f : Facility) (u : ℕ) (r : Process) (q t : ℕ) (k : Class) : Type 0 where
@@ -88,22 +114,22 @@ pub record Allowed (p : ℕ) (f₀ f : Facility) (u : ℕ) (r : Process) (q t : 
 
 module _ (p : ℕ) (f₀ f : Facility) (a : Account) (u : ℕ) (r : Process) (q t : ℕ) (k : Class) (S : Scene p f₀ f a u r) (A : Allowed p f₀ f u r q t k) where
   class-is : classIn (viewOf f (by p q t)) (by p q t) ≡ k
-  class-is = rw (S .objects t) (A .class)
+  class-is = rw (S .setting .objects t) (A .class)
 
   owner-is : userOf f (r .owner) ≡ userOf f₀ u
-  owner-is = rw (S .owner) (S .user)
+  owner-is = rw (S .owner) (S .setting .user)
 
   mac-passes : passes (macObject k (objectOf f₀ t) r (userOf f₀ u)) ≡ true
   unfolding macObject
-  mac-passes = rw (S .untrusted, A .labelled) (A .granted)
+  mac-passes = rw (S .setting .untrusted, A .labelled) (A .granted)
 
   combined-is : answers OnObject (viewOf f (by p q t)) (by p q t) .combined ≡ macObject k (objectOf f₀ t) r (userOf f₀ u)
   unfolding macRule
-  combined-is = alone-is OnObject (viewOf f (by p q t)) (by p q t) (S .alone) ∙ rw (class-is, S .process, owner-is, S .objects t)
+  combined-is = alone-is OnObject (viewOf f (by p q t)) (by p q t) (S .setting .alone) ∙ rw (class-is, S .process, owner-is, S .setting .objects t)
 
-  number-is : numberBy OnObject (viewOf f (by p q t)) (by p q t) ≡ 0
-  number-is =
-      all-passed OnObject (viewOf f (by p q t)) (by p q t)
+  accepted-is : accepted f (by p q t) ≡ true
+  accepted-is =
+      accepted-by f (by p q t) OnObject (A .target)
       (record {
         known = A .known;
         process = S .small;
@@ -115,7 +141,7 @@ module _ (p : ℕ) (f₀ f : Facility) (a : Account) (u : ℕ) (r : Process) (q 
         newClone = refl;
         user = refl;
         kind = refl;
-        alive = rw (S .objects t) (A .alive);
+        alive = rw (S .setting .objects t) (A .alive);
         class = rw (class-is, A .there);
         opened = rw class-is (A .opened);
         room = refl;
@@ -123,18 +149,14 @@ module _ (p : ℕ) (f₀ f : Facility) (a : Account) (u : ℕ) (r : Process) (q 
         answer = rw combined-is mac-passes;
       })
 
-  accepted-is : accepted f (by p q t) ≡ true
-  unfolding accepted
-  accepted-is = rw (A .target, number-is)
-
   moved-to : moved (viewOf f (by p q t)) (by p q t) ≡ moveBy k (labelOf f₀ t) r
   unfolding moved _and_
-  moved-to = rw (class-is, S .process, owner-is, S .untrusted, S .objects t, S .alone .mac)
+  moved-to = rw (class-is, S .process, owner-is, S .setting .untrusted, S .setting .objects t, S .setting .alone .mac)
 
   -- the account after the call
   carried-is : carryBy OnObject a (by p q t) ≡ carry k a (by p q t)
   unfolding carryBy
-  carried-is = rw (S .kinds t, A .class)
+  carried-is = rw (S .setting .kinds t, A .class)
 
   carry-kinds : (x : ℕ) → (carry k a (by p q t)) .kinds x ≡ a .kinds x
   unfolding carry processGains objectGains
@@ -148,37 +170,30 @@ module _ (p : ℕ) (f₀ f : Facility) (a : Account) (u : ℕ) (r : Process) (q 
 
   -- the state with the caller moved
   scene-moved : Scene p f₀ (putProcess f p (moveBy k (labelOf f₀ t) r)) (carry k a (by p q t)) u (moveBy k (labelOf f₀ t) r)
-  unfolding putProcess
   scene-moved =
-      record {
-        small = S .small;
-        shaped = shaped-process f p _ (S .shaped);
-        alone = S .alone;
-        objects = S .objects;
-        user = S .user;
-        untrusted = S .untrusted;
-        process = process-same f p _ (S .shaped) (S .small);
-        running = rw (move-running k (labelOf f₀ t) r) (S .running);
-        owner = move-owner k (labelOf f₀ t) r ∙ S .owner;
-        kinds = λ x. carry-kinds x ∙ S .kinds x;
-      }
+      put-scene p f₀ f a _ u _ (S .setting) (S .small) (rw (move-running k (labelOf f₀ t) r) (S .running)) (move-owner k (labelOf f₀ t) r ∙ S .owner)
+      carry-kinds
 
 -- the state with other opens
 scene-opens : (p : ℕ) (f₀ f : Facility) (a : Account) (u : ℕ) (r : Process) (l : List ℕ) → length l ≡ mostOpens → Scene p f₀ f a u r
     → Scene p f₀ (putOpens f l) a u r
 unfolding putOpens
 scene-opens p f₀ f a u r l e S =
+    let T = S .setting in
     record {
       small = S .small;
-      shaped = shaped-opens f l e (S .shaped);
-      alone = S .alone;
-      objects = S .objects;
-      user = S .user;
-      untrusted = S .untrusted;
+      setting = record {
+        shaped = shaped-opens f l e (T .shaped);
+        alone = T .alone;
+        objects = T .objects;
+        known = T .known;
+        user = T .user;
+        untrusted = T .untrusted;
+        kinds = T .kinds;
+      };
       process = S .process;
       running = S .running;
       owner = S .owner;
-      kinds = S .kinds;
     }
 
 -- a request that drops no object
@@ -186,8 +201,8 @@ scene-open : (o : OpenChange) (p : ℕ) (f₀ f : Facility) (a : Account) (u : �
     → Scene p f₀ (openBy o f p t) a u r
 unfolding openBy
 scene-open Keep p f₀ f a u r t d S = S
-scene-open (Add m) p f₀ f a u r t d S = scene-opens p f₀ f a u r _ (simp length-set (S .shaped .opens)) S
-scene-open Close p f₀ f a u r t d S = scene-opens p f₀ f a u r _ (simp length-set (S .shaped .opens)) S
+scene-open (Add m) p f₀ f a u r t d S = scene-opens p f₀ f a u r _ (simp length-set (S .setting .shaped .opens)) S
+scene-open Close p f₀ f a u r t d S = scene-opens p f₀ f a u r _ (simp length-set (S .setting .shaped .opens)) S
 scene-open CloseAll p f₀ f a u r t d S = clash refl d
 
 -- what is to be reached by a list of calls: b holds the matter of x
@@ -195,11 +210,12 @@ pub record Reach (f : Facility) (a : Account) (cs : List Call) (b x : ℕ) : Typ
   pub untrusted : trustedLogins f cs ≡ false
   pub holding : (account a (history f cs)) .objects b x ≡ true
 
-after-is : (f : Facility) (c : Call) (k : Action) → actionOf (c .request) ≡ k → accepted f c ≡ true → after f c ≡ effectBy k f c
+-- the facility, and the account, after an accepted call
+pub after-is : (f : Facility) (c : Call) (k : Action) → actionOf (c .request) ≡ k → accepted f c ≡ true → after f c ≡ effectBy k f c
 unfolding after
 after-is f c k e h = rw (h, e)
 
-recorded-is : (f : Facility) (a : Account) (c : Call) (k : Action) → actionOf (c .request) ≡ k → accepted f c ≡ true
+pub recorded-is : (f : Facility) (a : Account) (c : Call) (k : Action) → actionOf (c .request) ≡ k → accepted f c ≡ true
     → afterEntry a (record { call = c; accepted = accepted f c }) ≡ carryBy k a c
 unfolding afterEntry
 recorded-is f a c k e h = rw (h, e)
