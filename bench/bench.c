@@ -8,7 +8,7 @@
 
 #include "plain.h"
 
-enum { CALLS = 4096, WARM = 20, ROUNDS = 800, TRIALS = 400000, RAISED = 1000 };
+enum { CALLS = 4096, WARM = 20, ROUNDS = 800, TRIALS = 400000, RAISED = 1000, MOVED = 1000, STOPPED = 100 };
 
 static uint64_t seed = 1;
 
@@ -76,6 +76,22 @@ static void random_signal(const hv_facility *f, uint8_t c[4])
     else memcpy(c, (uint8_t[4]){HV_SEND_SIGNAL, p, q, 0}, 4);
 }
 
+/* A login, a clone, a terminate or, mostly, a call of class R, W or B, so that levels move; of processes whose level few other calls set. */
+static void random_move(const hv_facility *f, uint8_t c[4])
+{
+    static const uint8_t requests[] = {HV_READ_OPEN, HV_READ_OPEN, HV_WRITE_OPEN, HV_WRITE_OPEN, HV_READ_WRITE_OPEN, HV_EXECUTE, HV_SEARCH, HV_WRITE,
+                                       HV_CREATE, HV_ALTER, HV_GET_STATUS_DATA, HV_MODIFY_ACCESS_DATA};
+    uint8_t p = (uint8_t)(4 + byte_below(4)), way = byte_below(12);
+    if (f->runnings[p] != 1) memcpy(c, (uint8_t[4]){HV_LOGIN, p, 0, byte_below(4)}, 4);
+    else if (way < 2) memcpy(c, (uint8_t[4]){HV_TERMINATE, p, 0, 0}, 4);
+    else if (way == 2) memcpy(c, (uint8_t[4]){HV_CLONE, p, (uint8_t)(4 + byte_below(4)), 0}, 4);
+    else
+        for (int k = 0; k < 8 && (k == 0 || plain_query(f, c[0], p, c[2], c[3]).number != 0); k++) {
+            uint8_t request = requests[random_below(sizeof requests)], t = byte_below(34), e = byte_below(2);
+            memcpy(c, (uint8_t[4]){request, p, t, e}, 4);
+        }
+}
+
 /* Puts two processes to one level with a read mark below it, also with MAC off, where calls leave every level 0. */
 static void put_levels(hv_facility *f, uint8_t p, uint8_t q, uint8_t level)
 {
@@ -87,7 +103,8 @@ static void put_levels(hv_facility *f, uint8_t p, uint8_t q, uint8_t level)
 static int same(const hv_facility *a, const hv_facility *b)
 {
     return memcmp(a, b, offsetof(hv_facility, opens) + sizeof a->opens) == 0 && memcmp(a->refusals, b->refusals, sizeof a->refusals) == 0
-        && a->ff == b->ff && memcmp(a->flags, b->flags, sizeof a->flags) == 0 && memcmp(a->parents, b->parents, sizeof a->parents) == 0;
+        && a->ff == b->ff && memcmp(a->flags, b->flags, sizeof a->flags) == 0 && memcmp(a->parents, b->parents, sizeof a->parents) == 0
+        && memcmp(a->moves, b->moves, sizeof a->moves) == 0;
 }
 
 /* Set-ups written out, also after deletions, are the same. */
@@ -109,12 +126,57 @@ static int same_flags(const hv_facility *plain, const hv_facility *proved, uint8
     return hv_effective_flags(*proved, t) == plain_effective_flags(plain, t);
 }
 
-/* Random calls on random set-ups, many of them signals: outcome, state, query, flags and set-up written out are the same. Now and then an object is
- * put open for both at a process that runs, so that a write meets a read-only one, or sender and receiver of a signal are put to one level. */
+/* The next call, many of them signals or moves. Now and then an object is put open for both at a process that runs, so that a write meets a
+ * read-only one, or sender and receiver of a signal are put to one level, or the moves of the caller to the stop or next to it. */
+static void next_call(hv_facility *plain, hv_facility *proved, uint8_t c[4])
+{
+    uint32_t way = random_below(6);
+    if (way == 0) random_signal(plain, c);
+    else if (way == 1) random_move(plain, c);
+    else random_call(c);
+    if (random_below(8) == 0 && c[1] < HV_PROCESSES && c[2] < HV_OBJECTS && plain->runnings[c[1]] == 1 && plain->lives[c[2]] == 1)
+        plain->opens[c[1] * HV_OBJECTS + c[2]] = proved->opens[c[1] * HV_OBJECTS + c[2]] = HV_OPEN_READING | HV_OPEN_WRITING;
+    if (c[0] == HV_SEND_SIGNAL && random_below(8) == 0) {
+        uint8_t level = byte_below(6);
+        put_levels(plain, c[1], c[2], level);
+        put_levels(proved, c[1], c[2], level);
+    }
+    if (way == 1 && random_below(8) == 0) plain->moves[c[1]] = proved->moves[c[1]] = (uint8_t)(UINT8_MAX - byte_below(3));
+}
+
+/* What the calls of the agreement did. */
+static struct { long accepted, signals, raised, left, moved, stopped; } seen;
+
+/* Counts a call by the caller's and the target's process before it and after it. */
+static void count_seen(const hv_facility *before, const hv_facility *after, const uint8_t c[4], hv_outcome o)
+{
+    uint8_t p = c[1] % HV_PROCESSES, receiver = c[2] % HV_PROCESSES;
+    if (o.number != 0) return;
+    seen.accepted++;
+    if (c[0] == HV_SEND_SIGNAL) {
+        seen.signals++;
+        seen.raised += after->readmarks[receiver] > before->readmarks[receiver];
+        seen.left += after->readmarks[receiver] < after->currents[receiver];
+    }
+    if (c[0] == HV_LOGIN || c[0] == HV_TERMINATE || c[0] == HV_SET_LEVEL) return;
+    seen.moved += after->moves[p] > before->moves[p];
+    seen.stopped += after->currents[p] != before->currents[p] && after->moves[p] == before->moves[p];
+}
+
+static int enough_seen(void)
+{
+    printf("agreement\t%d\t%ld\n", TRIALS, seen.accepted);
+    printf("signals\t%ld\t%ld\t%ld\n", seen.signals, seen.raised, seen.left);
+    printf("moves\t%ld\t%ld\n", seen.moved, seen.stopped);
+    if (seen.raised < RAISED || seen.left < RAISED) return printf("too few signals that raise a mark, or leave one below the level\n"), 0;
+    if (seen.moved < MOVED || seen.stopped < STOPPED) return printf("too few moves, or moves at the stop\n"), 0;
+    return 1;
+}
+
+/* Random calls on random set-ups: outcome, state, query, flags and set-up written out are the same. */
 static int agree(void)
 {
     static hv_facility plain, proved;
-    long accepted = 0, signals = 0, raised = 0, left = 0;
     for (long k = 0, rest = 0; k < TRIALS; k++, rest--) {
         if (rest == 0) {
             uint8_t s[HV_SETUP_MOST];
@@ -130,16 +192,8 @@ static int agree(void)
             rest = 400;
         }
         uint8_t c[4];
-        if (random_below(6)) random_call(c);
-        else random_signal(&plain, c);
-        if (random_below(8) == 0 && c[1] < HV_PROCESSES && c[2] < HV_OBJECTS && plain.runnings[c[1]] == 1 && plain.lives[c[2]] == 1)
-            plain.opens[c[1] * HV_OBJECTS + c[2]] = proved.opens[c[1] * HV_OBJECTS + c[2]] = HV_OPEN_READING | HV_OPEN_WRITING;
-        if (c[0] == HV_SEND_SIGNAL && random_below(8) == 0) {
-            uint8_t level = byte_below(6);
-            put_levels(&plain, c[1], c[2], level);
-            put_levels(&proved, c[1], c[2], level);
-        }
-        uint8_t receiver = c[2] % HV_PROCESSES, mark = plain.readmarks[receiver];
+        next_call(&plain, &proved, c);
+        hv_facility before = plain;
         hv_outcome q = hv_query(proved, c[0], c[1], c[2], c[3]);
         hv_enforced e = hv_enforce(proved, c[0], c[1], c[2], c[3]);
         hv_facility place = proved;
@@ -149,21 +203,13 @@ static int agree(void)
         proved = e.facility;
         if (memcmp(&o, &qa, sizeof o) != 0 || memcmp(&o, &ea, sizeof o) != 0 || !same(&plain, &place))
             return printf("call %d %d %d %d in place differs: %d, %d and %d\n", c[0], c[1], c[2], c[3], o.number, qa.number, ea.number), 0;
-        accepted += o.number == 0;
-        if (o.number == 0 && c[0] == HV_SEND_SIGNAL) {
-            signals++;
-            raised += plain.readmarks[receiver] > mark;
-            left += plain.readmarks[receiver] < plain.currents[receiver];
-        }
+        count_seen(&before, &plain, c, o);
         if (memcmp(&o, &e.outcome, sizeof o) != 0 || memcmp(&o, &q, sizeof o) != 0 || !same(&plain, &proved))
             return printf("call %d %d %d %d differs: %d and %d\n", c[0], c[1], c[2], c[3], o.number, e.outcome.number), 0;
         if (!same_flags(&plain, &proved, c[2]) || (o.number == 0 && !same_flags(&plain, &proved, o.object)))
             return printf("flags after call %d %d %d %d differ\n", c[0], c[1], c[2], c[3]), 0;
     }
-    printf("agreement\t%d\t%ld\n", TRIALS, accepted);
-    printf("signals\t%ld\t%ld\t%ld\n", signals, raised, left);
-    if (raised < RAISED || left < RAISED) return printf("too few signals that raise a mark, or leave one below the level\n"), 0;
-    return 1;
+    return enough_seen();
 }
 
 /* Calls in a list, each taken for what it comes to from a state that goes on with them. */

@@ -13,10 +13,17 @@ static const uint8_t classes[4][22] = {
 };
 
 /* What MAC does to the calling process. */
-struct move { uint8_t current, readmark, writemark, automatic; };
+struct move { uint8_t current, readmark, writemark, automatic, moves; };
 
 static inline uint8_t most(uint8_t a, uint8_t b) { return a < b ? b : a; }
 static inline uint8_t least(uint8_t a, uint8_t b) { return a < b ? a : b; }
+
+/* What R, W and B do to the current level: where it changes it has moved once more; at 255 the number stays. */
+static inline void move_to(struct move *m, uint8_t level)
+{
+    m->moves = (uint8_t)(m->moves + (level != m->current && m->moves != UINT8_MAX));
+    m->current = level;
+}
 
 static inline int needs_object(uint8_t request, uint8_t extra)
 {
@@ -58,12 +65,12 @@ static inline uint8_t class_answer(uint8_t class, uint8_t level, uint8_t clearan
     switch (class) {
     case R:
         if (level > m->current && !(m->automatic == 1 && level <= m->writemark && level <= clearance)) return HV_NOT_GRANTED;
-        m->current = most(m->current, level);
+        move_to(m, most(m->current, level));
         m->readmark = most(m->readmark, level);
         return HV_GRANTED;
     case W: case B:
         if (level != m->current && !(m->automatic == 1 && m->readmark <= level && level <= m->writemark && level <= clearance)) return HV_NOT_GRANTED;
-        m->current = level;
+        move_to(m, level);
         if (class == B) m->readmark = m->writemark = level;
         else m->writemark = least(m->writemark, level);
         return HV_GRANTED;
@@ -133,7 +140,7 @@ static inline hv_outcome judge(const hv_facility *f, uint8_t request, uint8_t p,
 {
     hv_outcome o = {questions(f, request, p, t, e), HV_NOT_CARED, HV_NOT_CARED, HV_NOT_CARED, HV_NOT_CARED, HV_NO_OBJECT, HV_NOT_CARED};
     if (o.number != HV_ACCEPTED) return o;
-    *m = (struct move){f->currents[p], f->readmarks[p], f->writemarks[p], f->automatics[p]};
+    *m = (struct move){f->currents[p], f->readmarks[p], f->writemarks[p], f->automatics[p], f->moves[p]};
     if (f->mac == 1) o.mac = mac_answer(f, request, p, t, e, m);
     if (needs_object(request, e)) {
         uint8_t owner = f->owners[p], role = owner < HV_USERS ? f->roles[owner] : 0, category = f->categories[t];
@@ -170,6 +177,7 @@ static void store(hv_facility *f, uint8_t p, const struct move *m)
     f->readmarks[p] = m->readmark;
     f->writemarks[p] = m->writemark;
     f->automatics[p] = m->automatic;
+    f->moves[p] = m->moves;
 }
 
 static void act(hv_facility *f, uint8_t request, uint8_t p, uint8_t t, uint8_t e, const struct move *m)
@@ -179,7 +187,7 @@ static void act(hv_facility *f, uint8_t request, uint8_t p, uint8_t t, uint8_t e
     case HV_LOGIN:
         f->runnings[p] = 1;
         f->owners[p] = e;
-        store(f, p, &(struct move){0, 0, 15, 1});
+        store(f, p, &(struct move){0, 0, 15, 1, 0});
         return;
     case HV_CLONE:
         f->runnings[t] = 1;
@@ -189,7 +197,7 @@ static void act(hv_facility *f, uint8_t request, uint8_t p, uint8_t t, uint8_t e
         return;
     case HV_TERMINATE:
         f->runnings[p] = f->owners[p] = 0;
-        store(f, p, &(struct move){0, 0, 0, 0});
+        store(f, p, &(struct move){0, 0, 0, 0, 0});
         memset(row, 0, HV_OBJECTS);
         return;
     default:

@@ -10,6 +10,10 @@
  * mark, which move with its calls. So are an object's own flags, which it was entered with, and its effective ones, which it has from them
  * and from the directories above it.
  *
+ * A process carries the number of moves that its current level made by itself: the changes of it by calls of class R, W or B that the process made
+ * since its login. A clone begins with its parent's number. HV_SET_LEVEL and signals are no moves, nor is a refused call; with MAC off, or for a
+ * trusted owner, there are none. After any calls from a fresh facility the number is at most the owner's clearance plus 1.
+ *
  * A facility is a value: hv_enforce takes one and returns the next. hv_enforce_at changes one where it is, which is faster; it is proved
  * to do the same.
  *
@@ -112,8 +116,8 @@ enum hv_flag {
 /* No object was given. */
 #define HV_NO_OBJECT 255
 
-/* The whole state: switches, users, objects, processes, opens, the counters of refusals, flags and parents. Three bytes before `refusals` and
- * three at the end are padding. */
+/* The whole state: switches, users, objects, processes, opens, the counters of refusals, flags and parents, and the processes' moves: 5,340 bytes.
+ * Three bytes before `refusals` and three at the end are padding. */
 typedef struct hv_facility {
     uint8_t mac, fc, sim;                       /* switches, each 0 or 1 */
     uint8_t users;                              /* how many users there are */
@@ -137,6 +141,7 @@ typedef struct hv_facility {
     uint8_t ff;                                 /* the fourth switch, 0 or 1 */
     uint8_t flags[HV_OBJECTS];                  /* by object number: its own flags */
     uint8_t parents[HV_OBJECTS];                /* by object number: the parent directory's number plus 1, or 0 for none */
+    uint8_t moves[HV_PROCESSES];                /* by process number: the moves of its current level; at 255 it stays, which only bytes put in by C reach */
 } hv_facility;
 
 /* What a call came to: refusal number, answers of MAC, FC and SIM, the combination of all four modules' answers, the object that an accepted
@@ -149,7 +154,7 @@ typedef struct hv_writing { size_t length; uint8_t number; } hv_writing;
 typedef struct hv_printed { hv_facility facility; size_t length; } hv_printed;
 
 typedef struct hv_user_record { uint8_t clearance, role, trusted; } hv_user_record;
-typedef struct hv_process_record { uint8_t running, owner, current, readmark, writemark, automatic; } hv_process_record;
+typedef struct hv_process_record { uint8_t running, owner, current, readmark, writemark, automatic, moves; } hv_process_record;
 typedef struct hv_object_record { uint8_t live, kind, level, category, datatype, flags, parent; } hv_object_record;
 typedef struct hv_summary_record { uint8_t mac, fc, sim, users, entered, ff; } hv_summary_record;
 
@@ -193,7 +198,8 @@ hv_printed hv_put_block(hv_facility f, uint64_t first, const uint8_t *calls, siz
 /* The same on a facility where it is, which becomes the facility after them; the padding stays. How many bytes the lines have. */
 size_t hv_put_block_at(hv_facility *f, uint64_t first, const uint8_t *calls, size_t calls_length, uint8_t *out, size_t out_length);
 
-/* A user, a process, an object; all fields are 0 for a number that is none. [userOf, processOf, objectOf, state/State] */
+/* A user, a process, an object; all fields are 0 for a number that is none. A process's `moves` is how often its current level moved by itself, at
+ * most its owner's clearance plus 1 after any calls from a fresh facility. [userOf, processOf, objectOf, state/State] */
 hv_user_record hv_user(hv_facility f, uint8_t user);
 hv_process_record hv_process(hv_facility f, uint8_t process);
 hv_object_record hv_object(hv_facility f, uint8_t object);

@@ -394,9 +394,10 @@ for _ in range(150):
     check(model.setup_bytes(model.read_setup(again)[2]), again, "written again")
 # in words
 check(words.tell(FF_ON + thing(1, 0, 0, 0, RO + ND) + thing(0, 255, 0, 0, ADD + NX, 1), bytes([21, 0, 0, 0, 20, 0, 1, 0]))[1],
-      "2 process 0 (user 0, clearance 9, current 0, marks 0 to 15): write-open object 1 (file, level unset, read-only, no-execute, add-inherited): "
+      "2 process 0 (user 0, clearance 9, current 0, marks 0 to 15, moved 0 times of at most 10): "
+      "write-open object 1 (file, level unset, read-only, no-execute, add-inherited): "
       "MAC not cared, FC not cared, SIM not cared, FF not granted by read-only of object 0, combined not granted: 12 not granted; "
-      "then user 0, clearance 9, current 0, marks 0 to 15; refusals of user 0: 1", "FF in words")
+      "then user 0, clearance 9, current 0, marks 0 to 15, moved 0 times of at most 10; refusals of user 0: 1", "FF in words")
 check(words.tell(KINDS + thing(0, 0, 0, 0, 0, 1), b""), ["set-up refused at record 6: 19 parent is no earlier directory"], "19 in words")
 
 # --- Matter ---------------------------------------------------------------
@@ -574,25 +575,168 @@ assert by_signals > 50, by_signals
 
 # in words
 TOLD = b"".join(map(bytes, [*READ_AND_SENT, (SEND_SIGNAL, 1, 0, 0), (SEND_SIGNAL, 0, 2, 0), (SEND_SIGNAL, 0, 200, 0), (SET_LEVEL, 1, 0, 3), SIGNAL]))
-SENDER = "user 0, clearance 15, current 2, marks 2 to 15"
+SENDER = "user 0, clearance 15, current 2, marks 2 to 15, moved 1 times of at most 16"
+STILL = "moved 0 times of at most 16"
+SET_TO_2, RAISED = ("user 0, clearance 15, current 2, marks %d to 15, %s" % (mark, STILL) for mark in (0, 2))
+SET_TO_3 = "user 0, clearance 15, current 3, marks 2 to 15, " + STILL
 SENT = "MAC granted, FC not cared, SIM not cared, FF not cared, combined granted: 0 accepted"
 ASIDE = "MAC not cared, FC not cared, SIM not cared, FF not cared, combined not cared: "
 check(words.tell(SIGNALS, TOLD)[5:9] + words.tell(SIGNALS, TOLD)[10:],
-      ["6 process 0 (%s): send-signal process 1 (user 0, clearance 15, current 2, marks 0 to 15): %s; then %s; process 1 then %s" % (
-          SENDER, SENT, SENDER, SENDER),
-       "7 process 1 (%s): send-signal process 0 (%s): %s; then %s; process 0 then %s" % (SENDER, SENDER, SENT, SENDER, SENDER),
+      ["6 process 0 (%s): send-signal process 1 (%s): %s; then %s; process 1 then %s" % (SENDER, SET_TO_2, SENT, SENDER, RAISED),
+       "7 process 1 (%s): send-signal process 0 (%s): %s; then %s; process 0 then %s" % (RAISED, SENDER, SENT, RAISED, SENDER),
        "8 process 0 (%s): send-signal process 2 (not running): %s3 process does not run; then %s; process 2 then not running" % (
            SENDER, ASIDE, SENDER),
        "9 process 0 (%s): send-signal process 200 (not running): %s2 no such process number; then %s; process 200 then not running" % (
            SENDER, ASIDE, SENDER),
-       "11 process 0 (%s): send-signal process 1 (user 0, clearance 15, current 3, marks 2 to 15): "
+       "11 process 0 (%s): send-signal process 1 (%s): "
        "MAC not granted, FC not cared, SIM not cared, FF not cared, combined not granted: 12 not granted; then %s; "
-       "process 1 then user 0, clearance 15, current 3, marks 2 to 15; refusals of user 0: 1" % (SENDER, SENDER)], "signals in words")
+       "process 1 then %s; refusals of user 0: 1" % (SENDER, SET_TO_3, SENDER, SET_TO_3)], "signals in words")
 check(words.tell(SIGNALS, TOLD[:20] + bytes([SEND_SIGNAL, 1, 1, 0]))[5],
-      "6 process 1 (user 0, clearance 15, current 2, marks 0 to 15): send-signal process 1 (user 0, clearance 15, current 2, marks 0 to 15): "
-      "%s; then %s; process 1 then %s" % (SENT, SENDER, SENDER), "a signal to itself in words")
+      "6 process 1 (%s): send-signal process 1 (%s): %s; then %s; process 1 then %s" % (SET_TO_2, SET_TO_2, SENT, RAISED, RAISED),
+      "a signal to itself in words")
 check(words.tell(SIGNALS, bytes([LOGIN, 0, 0, 0, CLONE, 0, 5, 0]))[1],
-      "2 process 0 (user 0, clearance 15, current 0, marks 0 to 15): clone process 5: %s; then user 0, clearance 15, current 0, marks 0 to 15" % SENT,
-      "clone in words")
+      "2 process 0 (user 0, clearance 15, current 0, marks 0 to 15, %s): clone process 5: %s; then user 0, clearance 15, current 0, marks 0 to 15, %s" % (
+          STILL, SENT, STILL), "clone in words")
+
+# --- Ticket 5: how often a level moves --------------------------------------
+
+# Users of clearance 3, untrusted (0) and trusted (1), and of clearance 0 (2); an object of kind k and level n has the number 4 * k + n.
+LEVELS = user(3) + user(3, 0, 1) + user(0) + b"".join(thing(kind, n) for kind in range(4) for n in range(4))
+MOVING = switches(1, 0, 0) + LEVELS
+STATUS, CONTROLS = 9, 12
+# after "Classes by kind": the requests of each class
+BY_CLASS = {"R": {0: (7, 13), 1: (12, 15), 3: (8, 9)}, "W": {0: (5, 6, 20), 1: (4, 5, 19), 2: (0, 5), 3: (1, 5, 10, 11)}, "B": {0: (14,), 2: (14,)}}
+
+
+def agrees(facility, history):
+    """The number of each process that runs is that of its history, and at most its owner's clearance plus 1."""
+    running = [p for p, process in enumerate(facility.processes) if process]
+    check([facility.processes[p].moves for p in running], [history.moves(p) for p in running], "moves and history")
+    check([p for p in running if facility.processes[p].moves > facility.users[facility.processes[p].owner].clearance + 1], [], "at most clearance plus 1")
+
+
+def trace(setup, *calls):
+    """The numbers of the calls, and the facility after them; after each, every process is held against its history."""
+    _, _, facility = model.read_setup(setup)
+    history, numbers = model.History(setup), []
+    for call in calls:
+        before = model.currents(facility)
+        numbers.append(model.enforce(facility, call).number)
+        history.note(call, numbers[-1] == 0, before, model.currents(facility))
+        agrees(facility, history)
+    return numbers, facility
+
+
+def moves(setup, *calls):
+    """Whether all calls were accepted, and the moves of the processes that run after them."""
+    numbers, facility = trace(setup, *calls)
+    return not any(numbers), [process.moves for process in facility.processes if process]
+
+
+check(moves(MOVING, IN), (True, [0]), "0 at login")
+# each request of each class, on each kind at each level: counted once where it changes the level, not again, not for a trusted owner or with MAC off
+for letter, kinds in BY_CLASS.items():
+    for kind, requests in kinds.items():
+        for request in requests:
+            for level in range(4):
+                call = (request, 0, 4 * kind + level, 0)
+                check(moves(MOVING, IN, call), (True, [int(level > 0)]), "request %d of class %s at level %d" % (request, letter, level))
+                if request != DELETE:
+                    check(moves(MOVING, IN, call, call), (True, [int(level > 0)]), "request %d twice" % request)
+                check(moves(MOVING, (LOGIN, 0, 0, 1), call), (True, [0]), "a trusted owner's request %d" % request)
+                check(moves(switches(0, 0, 0) + LEVELS, IN, call), (True, [0]), "request %d with MAC off" % request)
+                check(moves(MOVING, (LOGIN, 0, 0, 2), call), (level == 0, [0]), "request %d, clearance 0" % request)
+                # down again, from a level that was written to
+                down = moves(MOVING, IN, (WRITE_OPEN, 0, 3, 0), call)
+                check(down, (True, [1 if level == 3 or letter == "R" else 2]), "request %d after a write at level 3" % request)
+# what is no R, W or B: N, create without a directory, signals, clone
+OPENED = [IN, (READ_WRITE_OPEN, 0, 2, 0)]
+check(moves(MOVING, *OPENED, (READ, 0, 2, 0), (WRITE, 0, 2, 0), (CLOSE, 0, 2, 0), (CREATE, 0, 0, 2), (CREATE, 0, 0, 3)), (True, [1]), "N, and create")
+check(moves(MOVING, *OPENED, (SEND_SIGNAL, 0, 0, 0)), (True, [1]), "a signal to itself")
+check(moves(MOVING, *OPENED, (LOGIN, 1, 0, 0), (SET_LEVEL, 1, 0, 2), (SEND_SIGNAL, 0, 1, 0), (SEND_SIGNAL, 1, 0, 0)), (True, [1, 0]), "signals")
+# set-level changes the level and is no move; none follows it
+check(moves(MOVING, IN, *((SET_LEVEL, 0, 0, level) for level in (3, 1, 0, 2))), (True, [0]), "set-level")
+check(moves(MOVING, IN, (READ_OPEN, 0, 1, 0), (SET_LEVEL, 0, 0, 3), (SET_LEVEL, 0, 0, 2), (READ_OPEN, 0, 0, 0), (WRITE_OPEN, 0, 2, 0)), (True, [1]),
+      "set-level after a move")
+check(moves(MOVING, (LOGIN, 0, 0, 1), (SET_LEVEL, 0, 0, 3), (SET_LEVEL, 0, 0, 1)), (True, [0]), "a trusted owner's set-level")
+# refused calls, by each module, that MAC would have moved for
+for module, setup in (("FC", switches(1, 1, 0) + user(3) + thing(0, 2, 1)), ("SIM", switches(1, 0, 1) + user(3) + thing(0, 2, 0, 1)),
+                      ("FF", switches(1, 0, 0, 1) + user(3) + thing(0, 2, 0, 0, RO)), ("FC undefined", switches(1, 1, 0) + user(3) + thing(0, 2, 255)),
+                      ("MAC", switches(1, 0, 0) + user(1) + thing(0, 2)), ("MAC undefined", switches(1, 0, 0) + user(3) + thing(0, 255))):
+    for request in (WRITE_OPEN, READ_WRITE_OPEN):
+        check(moves(setup, IN, (request, 0, 0, 0)), (False, [0]), "refused by " + module)
+# a clone has its parent's number at the cloning; then each its own
+check(moves(MOVING, *OPENED, (CLONE, 0, 5, 0)), (True, [1, 1]), "a clone")
+PARENT = [IN, (READ_OPEN, 0, 1, 0), (CLONE, 0, 5, 0)]
+check(moves(MOVING, *PARENT, (WRITE_OPEN, 0, 3, 0), (WRITE_OPEN, 0, 2, 0)), (True, [3, 1]), "the parent moves on")
+check(moves(MOVING, *PARENT, (WRITE_OPEN, 5, 3, 0), (WRITE_OPEN, 5, 2, 0)), (True, [1, 3]), "the clone moves on")
+check(moves(MOVING, *PARENT, (TERMINATE, 0, 0, 0), (WRITE_OPEN, 5, 3, 0), (CLONE, 5, 0, 0), (WRITE_OPEN, 0, 1, 0)), (True, [3, 2]),
+      "a clone's clone, in the first one's place")
+check(moves(MOVING, *PARENT, (TERMINATE, 0, 0, 0), IN, (READ_OPEN, 0, 1, 0), (READ_OPEN, 0, 2, 0)), (True, [2, 1]), "a login in the parent's place")
+check(moves(MOVING, *PARENT, (TERMINATE, 5, 0, 0), (LOGIN, 5, 0, 0)), (True, [1, 0]), "a login in the clone's place")
+check(moves(MOVING, *OPENED, (TERMINATE, 0, 0, 0), (LOGIN, 0, 0, 1)), (True, [0]), "a login after terminate")
+check(moves(MOVING, *OPENED, (CLONE, 0, 0, 0), (LOGIN, 0, 0, 0)), (False, [1]), "a refused clone and a refused login")
+# the bound is reached, by each way up and down again, and nothing moves any more
+for clearance in range(16):
+    every = switches(1, 0, 0) + user(clearance) + b"".join(thing(0, level) for level in range(16))
+    for read in range(clearance + 1):
+        for last in (WRITE_OPEN, READ_WRITE_OPEN):
+            up = [(READ_OPEN, 0, level, 0) for level in range(1, read + 1)]
+            down = [(WRITE_OPEN, 0, level, 0) for level in range(clearance, read, -1)]
+            calls = [IN, *up, *down, (last, 0, read, 0)]
+            # who read up to the clearance has no way down, and one move less
+            most = clearance + 1 if read < clearance else clearance
+            check(moves(every, *calls), (True, [most]), "the bound of clearance %d" % clearance)
+            more = [(request, 0, level, 0) for request in (READ_OPEN, WRITE_OPEN, READ_WRITE_OPEN) for level in range(16)]
+            check(moves(every, *calls, *more)[1], [most], "the level has settled")
+# every state of a process: how many moves lead to it at most, for each clearance
+for clearance in range(6):
+    setup = switches(1, 0, 0) + user(clearance) + b"".join(thing(0, level) for level in range(clearance + 2))
+    tried = [(request, 0, level, level) for request in (READ_OPEN, WRITE_OPEN, READ_WRITE_OPEN, SET_LEVEL) for level in range(clearance + 2)]
+    found = {(0, 0, 15, True): 0}
+    rest = list(found)
+    while rest:
+        state = rest.pop()
+        for call in tried + [(SEND_SIGNAL, 0, 0, 0)]:
+            facility = after(setup, IN)
+            process = facility.processes[0]
+            process.current, process.read_mark, process.write_mark, process.automatic = state
+            process.moves = found[state]
+            assert process.moves < 100, "no end of moves"
+            model.enforce(facility, call)
+            reached = facility.processes[0]
+            if found.get(levels(facility, 0), -1) < reached.moves:
+                found[levels(facility, 0)] = reached.moves
+                rest.append(levels(facility, 0))
+    check(max(found.values()), clearance + 1 if clearance else 0, "most moves of every state")
+# the number is a byte that stays at its stop, which only bytes that C put in come near
+facility = after(MOVING, IN)
+facility.processes[0].moves = 253
+for call, number in (((READ_OPEN, 0, 1, 0), 254), ((WRITE_OPEN, 0, 3, 0), 255), ((WRITE_OPEN, 0, 2, 0), 255), ((CLONE, 0, 5, 0), 255)):
+    check((model.enforce(facility, call).number, facility.processes[0].moves), (0, number), "the stop")
+check((facility.processes[5].moves, model.enforce(facility, (TERMINATE, 5, 0, 0)).number, model.enforce(facility, (LOGIN, 5, 0, 0)).number,
+       facility.processes[5].moves), (255, 0, 0, 0), "a clone and a login at the stop")
+# lists rich in moves
+at_bound = clones_at_bound = 0
+for case in range(60):
+    setup = vectors.move_setup(rng, (int(case % 10 != 9), int(case % 5 == 3), 0, int(case % 5 == 4)))
+    caller = vectors.Caller(rng, setup)
+    caller.go_with_moves(100)
+    _, facility = trace(setup, *caller.calls)
+    cloned = {call[2] for call in caller.calls if call[0] == CLONE}
+    for p, process in enumerate(facility.processes):
+        if process and process.moves == facility.users[process.owner].clearance + 1:
+            at_bound += 1
+            clones_at_bound += p in cloned
+assert at_bound > 20 and clones_at_bound > 5, (at_bound, clones_at_bound)
+# in words
+SAID = [IN, (STATUS, 0, CONTROLS + 1, 0), (STATUS, 0, CONTROLS + 1, 0), (SET_LEVEL, 0, 0, 2)]
+TOLD = words.tell(MOVING, b"".join(map(bytes, SAID)))
+MARKS = ("user 0, clearance 3, current 0, marks 0 to 15, moved 0 times of at most 4",
+         "user 0, clearance 3, current 1, marks 1 to 15, moved 1 times of at most 4",
+         "user 0, clearance 3, current 2, marks 1 to 15, moved 1 times of at most 4")
+check(TOLD, ["1 process 0 (not running): login user 0: %s; then %s" % (SENT, MARKS[0])]
+      + ["%d process 0 (%s): get-status-data object 13 (control data, level 1): %s; then %s" % (n, MARKS[n - 2], SENT, MARKS[1]) for n in (2, 3)]
+      + ["4 process 0 (%s): set-level level 2: %s; then %s" % (MARKS[1], SENT, MARKS[2])], "moves in words")
 
 print("model: %d checks passed" % passed)

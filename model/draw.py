@@ -1,8 +1,10 @@
-"""Draws a run as an SVG: python3 -B model/draw.py SETUP_FILE < CALLS > PICTURE.svg
+"""Draws a run as an SVG: python3 -B model/draw.py SETUP_FILE [FIRST] < CALLS > PICTURE.svg
 
 One lane for each process that runs: its current level as a line, with the band from read mark to write mark, over the calls. A call is
-marked in the lane of the process that made it: a dot where it was accepted, a cross with its number where it was refused. From an accepted
-signal a dashed line goes to the receiver, whose read mark it may have raised.
+marked in the lane of the process that made it: a dot where it was accepted, a cross with its number where it was refused. A move, a change
+of the current level by R, W or B, is marked on the level's line, with the number of moves that the process then has made. From an accepted
+signal a dashed line goes to the receiver, whose read mark it may have raised. All calls are made, and those from FIRST on are drawn, with the
+processes that make them, receive their signals, or are changed by them.
 """
 
 import sys
@@ -14,11 +16,12 @@ import words
 
 STEP, LANE, GAP, LEFT, TOP = 46, 112, 34, 150, 48
 RIGHT, BOTTOM = 24, 46
+LEGEND = 970                  # the width that it needs
 
 
 def states(facility):
-    """Owner, current level and marks of each process that runs."""
-    return {p: (r.owner, r.current, r.read_mark, r.write_mark) for p, r in enumerate(facility.processes) if r is not None}
+    """Owner, current level, marks and moves of each process that runs."""
+    return {p: (r.owner, r.current, r.read_mark, r.write_mark, r.moves) for p, r in enumerate(facility.processes) if r is not None}
 
 
 def record(setup, calls):
@@ -38,10 +41,14 @@ def record(setup, calls):
 
 
 class Picture:
-    def __init__(self, seen, made, clearances):
-        self.seen, self.made, self.clearances = seen, made, clearances
-        self.lanes = sorted({p for state in seen for p in state} | {call[1] for call, _, _ in made if call[1] < model.PROCESSES})
-        levels = [level for state in seen for _, current, read, write in state.values() for level in (current, read, write if write < 15 else 0)]
+    def __init__(self, seen, made, clearances, first=1):
+        self.seen, self.made, self.clearances, self.first = seen[first - 1:], made[first - 1:], clearances, first
+        begun, callers = self.seen[0], {call[1] for call, _, _ in self.made if call[1] < model.PROCESSES}
+        receivers = {call[2] for call, number, _ in self.made if call[0] == model.SEND_SIGNAL and number == 0}
+        changed = {p for state in self.seen for p in {*state, *begun} if state.get(p) != begun.get(p)}
+        self.lanes = sorted(callers | receivers | changed)
+        shown = [state[p] for state in self.seen for p in self.lanes if p in state]
+        levels = [level for _, current, read, write, _ in shown for level in (current, read, write if write < 15 else 0)]
         self.top = max(levels + clearances + [1]) + 1
         self.parts = []
 
@@ -58,7 +65,7 @@ class Picture:
         self.parts.append(part % values)
 
     def draw(self):
-        width = self.x(len(self.made)) + RIGHT + STEP
+        width = max(self.x(len(self.made)) + RIGHT + STEP, LEGEND)
         height = TOP + len(self.lanes) * (LANE + GAP) + BOTTOM
         self.add('<svg xmlns="http://www.w3.org/2000/svg" width="%d" height="%d" viewBox="0 0 %d %d" font-family="sans-serif" font-size="12">',
                  width, height, width, height)
@@ -68,6 +75,7 @@ class Picture:
             self.frame(p)
             self.bands(p)
             self.current(p)
+            self.moves(p)
         for k, (call, number, text) in enumerate(self.made):
             self.call(k, call, number, text)
         self.add('</svg>')
@@ -78,8 +86,10 @@ class Picture:
                  LEFT, LEFT + 28)
         self.add('<path d="M%d 18h22" stroke="#15467a" stroke-width="3"/><text x="%d" y="22">current level</text>', LEFT + 230, LEFT + 258)
         self.add('<circle cx="%d" cy="18" r="4" fill="#15467a"/><text x="%d" y="22">accepted</text>', LEFT + 360, LEFT + 370)
-        self.add('<path d="M%d 13l10 10m0 -10l-10 10" stroke="#b3261e" stroke-width="3"/><text x="%d" y="22">refused, with its number</text></g>',
+        self.add('<path d="M%d 13l10 10m0 -10l-10 10" stroke="#b3261e" stroke-width="3"/><text x="%d" y="22">refused, with its number</text>',
                  LEFT + 445, LEFT + 462)
+        self.add('<path d="M%d 12v12" stroke="#e07b00" stroke-width="7"/><text x="%d" y="22">move, with the number so far</text></g>',
+                 LEFT + 622, LEFT + 632)
 
     def frame(self, p):
         y, end = self.lane(p), self.x(len(self.made)) + STEP
@@ -108,29 +118,39 @@ class Picture:
                 begun = (k, value)
 
     def bands(self, p):
-        for first, last, (_, _, read, write) in self.spans(p):
+        for first, last, (_, _, read, write, _) in self.spans(p):
             low, high = self.y(p, read), self.y(p, write)
             self.add('<rect x="%.1f" y="%.1f" width="%.1f" height="%.1f" fill="#cfe0f3"/>', self.x(first - 0.5) + STEP / 2, high - 3,
                      (last - first) * STEP, low - high + 6)
 
     def current(self, p):
         path, previous = "", None
-        for first, last, (_, level, _, _) in self.spans(p):
+        for first, last, (_, level, _, _, _) in self.spans(p):
             join = "L" if previous == first else "M"
             path += "%s%.1f %.1fH%.1f" % (join, self.x(first), self.y(p, level), self.x(last))
             previous = last
         self.add('<path d="%s" fill="none" stroke="#15467a" stroke-width="3"/>', path)
 
+    def moves(self, p):
+        """On the line from the level before to the one after: changes of it by a call of p that is no set-level."""
+        for k, (call, _, _) in enumerate(self.made):
+            before, after = self.seen[k].get(p), self.seen[k + 1].get(p)
+            if call[1] == p and call[0] != model.SET_LEVEL and before and after and before[1] != after[1]:
+                low, high = sorted((self.y(p, before[1]), self.y(p, after[1])))
+                self.add('<path d="M%.1f %.1fV%.1f" stroke="#e07b00" stroke-width="7"/>', self.x(k + 1), low, high)
+                self.add('<text x="%.1f" y="%.1f" fill="#b35f00" font-size="12" font-weight="bold">%d</text>', self.x(k + 1) + 7, (low + high) / 2 + 4,
+                         after[4])
+
     def call(self, k, call, number, text):
         at = self.x(k + 1)
-        self.add('<text x="%.1f" y="%d" text-anchor="middle" fill="#777" font-size="10">%d</text>', at, TOP - 8, k + 1)
+        self.add('<text x="%.1f" y="%d" text-anchor="middle" fill="#777" font-size="10">%d</text>', at, TOP - 8, k + self.first)
         p = call[1]
         if p >= model.PROCESSES:
             return
         after, before = self.seen[k + 1].get(p), self.seen[k].get(p)
-        level = (after or before or (0, 0, 0, 0))[1]
+        level = (after or before or (0, 0))[1]
         y = self.y(p, level)
-        self.add('<g><title>%d: %s: %d %s</title>', k + 1, escape(text), number, escape(words.NUMBERS[number]))
+        self.add('<g><title>%d: %s: %d %s</title>', k + self.first, escape(text), number, escape(words.NUMBERS[number]))
         if number == 0 and call[0] == model.SEND_SIGNAL:
             self.add('<path d="M%.1f %.1fV%.1f" stroke="#15467a" stroke-dasharray="4 3"/>', at, y, self.y(call[2], self.seen[k + 1][call[2]][2]))
         if number == 0:
@@ -145,7 +165,11 @@ class Picture:
 
 def main():
     name = sys.argv[1] if len(sys.argv) > 1 else "setup.bin"
-    sys.stdout.write(Picture(*record(run.read_file(name), sys.stdin.buffer.read())).draw())
+    first = int(sys.argv[2]) if len(sys.argv) > 2 else 1
+    seen, made, clearances = record(run.read_file(name), sys.stdin.buffer.read())
+    if not 1 <= first <= len(seen):
+        sys.exit("there is no call %d" % first)
+    sys.stdout.write(Picture(seen, made, clearances, first).draw())
 
 
 if __name__ == "__main__":

@@ -1,14 +1,15 @@
 /* Drives the library for model/through_library.py. Standard input: cases, each a set-up behind its length in two bytes, the sixteen counters of
- * refusals to begin with, in four bytes each, then calls behind their number in four bytes, then lengths of buffers, in two bytes each, behind
- * their number in two, then pairs of object numbers behind their number in one byte; all low byte first. Before a call of request 254 C puts marks
- * of an open object into the facility: the low two bits of e, for process p and object t, where p runs and t is live. Before a call of request 253
- * it puts in levels of process p, where it runs: the current level from the low four bits of e, the read mark from the high ones, the write mark
- * from the low four of t. Standard output: of each set-up its number and the record's index in two bytes; of each call of an accepted one the
- * outcome's seven bytes, the sixteen counters, the calling process's record, the target's record as a process, its record as an object, its effective
- * flags, and for each flag the object that it comes from; then the set-up written out after the calls, behind its length in two bytes; then for each
- * length of a buffer number and length in two bytes, and the buffer, whose bytes were 165, with eight bytes behind it; then for each pair whether the
- * first holds the matter of the second after the calls. Each call is made by value and where the facility is, and each set-up written out; a
- * difference between the two ends the program with status 1, a set-up written out that is not read back as it is with status 3. */
+ * refusals to begin with, in four bytes each, then calls behind their number in four bytes, then lengths of buffers, in two bytes each, behind their
+ * number in two, then pairs of object numbers behind their number in one byte; all low byte first. Before a call of request 254 C puts marks of an
+ * open object into the facility: the low two bits of e, for process p and object t, where p runs and t is live. Before a call of request 253 it puts
+ * in levels of process p, where it runs: the current level from the low four bits of e, the read mark from the high ones, the write mark from the
+ * low four of t; of request 252 the number of moves of process p, where it runs: t. Standard output: of each set-up its number and the record's
+ * index in two bytes; of each call of an accepted one the outcome's seven bytes, the sixteen counters, the moves of each process, the calling
+ * process's record, the target's record as a process, its record as an object, its effective flags, and for each flag the object that it comes from;
+ * then the set-up written out after the calls, behind its length in two bytes; then for each length of a buffer number and length in two bytes, and
+ * the buffer, whose bytes were 165, with eight bytes behind it; then for each pair whether the first holds the matter of the second after the calls.
+ * Each call is made by value and where the facility is, and each set-up written out; a difference between the two ends the program with status 1, a
+ * set-up written out that is not read back as it is with status 3. */
 #include <stdio.h>
 #include <stdlib.h>
 #include <string.h>
@@ -45,13 +46,14 @@ static void put_words(const uint32_t *words, int n)
 static int same(const hv_facility *a, const hv_facility *b)
 {
     return memcmp(a, b, offsetof(hv_facility, opens) + sizeof a->opens) == 0 && memcmp(a->refusals, b->refusals, sizeof a->refusals) == 0
-        && a->ff == b->ff && memcmp(a->flags, b->flags, sizeof a->flags) == 0 && memcmp(a->parents, b->parents, sizeof a->parents) == 0;
+        && a->ff == b->ff && memcmp(a->flags, b->flags, sizeof a->flags) == 0 && memcmp(a->parents, b->parents, sizeof a->parents) == 0
+        && memcmp(a->moves, b->moves, sizeof a->moves) == 0;
 }
 
 static void put_process(hv_facility f, uint8_t process)
 {
     hv_process_record p = hv_process(f, process);
-    put((uint8_t[6]){p.running, p.owner, p.current, p.readmark, p.writemark, p.automatic}, 6);
+    put((uint8_t[7]){p.running, p.owner, p.current, p.readmark, p.writemark, p.automatic, p.moves}, 7);
 }
 
 static void put_object(hv_facility f, uint8_t t)
@@ -72,6 +74,7 @@ static void one_call(hv_facility *f, const uint8_t *c)
         f->readmarks[c[1]] = c[3] >> 4;
         f->writemarks[c[1]] = c[2] & 15;
     }
+    if (c[0] == 252 && c[1] < HV_PROCESSES && f->runnings[c[1]] == 1) f->moves[c[1]] = c[2];
     hv_outcome q = hv_query_at(f, c[0], c[1], c[2], c[3]);
     hv_enforced e = hv_enforce(*f, c[0], c[1], c[2], c[3]);
     hv_outcome o = hv_enforce_at(f, c[0], c[1], c[2], c[3]);
@@ -80,6 +83,11 @@ static void one_call(hv_facility *f, const uint8_t *c)
     for (uint8_t u = 0; u < HV_USERS; u++) refusals[u] = hv_refusals(*f, u);
     put((uint8_t[7]){o.number, o.mac, o.fc, o.sim, o.combined, o.object, o.ff}, 7);
     put_words(refusals, HV_USERS);
+    for (uint8_t p = 0; p < HV_PROCESSES; p++) {
+        uint8_t moves = hv_process(*f, p).moves;
+        if (moves != f->moves[p] || moves != hv_process(e.facility, p).moves) exit(1);
+        put(&moves, 1);
+    }
     put_process(*f, c[1]);
     put_process(*f, c[2]);
     put_object(*f, c[2]);

@@ -24,6 +24,7 @@ FLAGS = (READ_ONLY, NO_EXECUTE, NO_DELETE, SEARCH_ONLY, ADD_INHERITED)
 PROCESSES = 32
 TOP_LEVEL = 15
 COUNTER_STOP = 4294967295
+MOVES_STOP = 255                             # a byte; no list of calls from a fresh facility comes near it
 NO_OBJECT = 255                              # what all but an accepted create return
 
 # --- Calls ----------------------------------------------------------------
@@ -74,8 +75,16 @@ class Process:
         self.read_mark = 0
         self.write_mark = TOP_LEVEL
         self.automatic = True
+        self.moves = 0                       # "starting at 0 at login"
         self.open_reading = set()            # object numbers
         self.open_writing = set()
+
+    def move_to(self, level):
+        """What R, W and B do to the current level: "A move is a change of
+        current by R, W or B"."""
+        if level != self.current:
+            self.moves = min(self.moves + 1, MOVES_STOP)
+        self.current = level
 
     def copy(self):
         other = Process(self.owner)
@@ -83,6 +92,7 @@ class Process:
         other.read_mark = self.read_mark
         other.write_mark = self.write_mark
         other.automatic = self.automatic
+        other.moves = self.moves             # "copied by a clone"
         other.open_reading = set(self.open_reading)
         other.open_writing = set(self.open_writing)
         return other
@@ -359,7 +369,7 @@ def mac_answer(facility, request, p, t, e):
     # Set-level, of a trusted owner too.
     if request == SET_LEVEL:
         if process.read_mark <= e <= process.write_mark and e <= clearance:
-            moved.current = e
+            moved.current = e                # no move: it is not by R, W or B
             moved.automatic = False
             return GRANTED, moved
         return NOT_GRANTED, None
@@ -384,7 +394,7 @@ def mac_answer(facility, request, p, t, e):
         if level <= process.current or (
                 process.automatic and level <= process.write_mark
                 and level <= clearance):
-            moved.current = max(process.current, level)
+            moved.move_to(max(process.current, level))
             moved.read_mark = max(process.read_mark, level)
             return GRANTED, moved
         return NOT_GRANTED, None
@@ -394,7 +404,7 @@ def mac_answer(facility, request, p, t, e):
             process.automatic
             and process.read_mark <= level <= process.write_mark
             and level <= clearance):
-        moved.current = level
+        moved.move_to(level)
         moved.write_mark = min(process.write_mark, level)
         if call_class == "B":                # "both marks become L"; reading 8
             moved.read_mark = level
@@ -585,3 +595,46 @@ class Account:
 
     def process_holds(self, p, c):
         return c in self.process_sets[p]
+
+
+# --- Moves ----------------------------------------------------------------
+
+def most_moves(facility, p):
+    """"at most the owner's clearance plus 1"; reading 21: also where it is 0"""
+    return facility.users[facility.processes[p].owner].clearance + 1
+
+
+def currents(facility):
+    """The current level of each process, None where it does not run."""
+    return [process and process.current for process in facility.processes]
+
+
+class History:
+    """Moves, counted from the calls, whether each was accepted, and the current levels before and after it; never from the number that a
+    process carries."""
+
+    def __init__(self, setup):
+        # kinds of the objects, for the classes of the calls
+        self.kinds = [r[1] for r in records(setup) if r[0] == KIND_OBJECT] if setup_questions(setup)[0] == 0 else []
+        self.accepted = []                   # of each accepted call: request, p, t, whether it is a move
+
+    def note(self, call, accepted, before, after):
+        if not accepted:
+            return
+        request, p, t, e = call
+        by_class = needs_object(request, e) and CLASSES[self.kinds[t]][request] in ("R", "W", "B")
+        self.accepted.append((request, p, t, by_class and before[p] != after[p]))
+        if request == CREATE:
+            self.kinds.append(e)
+
+    def moves(self, p):
+        """"the moves in the history of the process and, up to each cloning, of those it was cloned from", back to the login"""
+        counted = 0
+        for request, caller, t, move in reversed(self.accepted):
+            if request == LOGIN and caller == p:
+                break
+            if request == CLONE and t == p:
+                p = caller                   # from here back it is its parent's history
+            elif caller == p:
+                counted += move
+        return counted

@@ -1,20 +1,22 @@
 """The story of docs/LEVELS.md: python3 -B model/story.py FOLDER writes FOLDER/data/setup.bin and FOLDER/stdin.
 
 Two windows of one user, the restricted hull lines and the open yard folder; then a clone, a new login and a user of a lower clearance; then,
-in a third window of the first user, directories that flags shield; then a window that is signalled by one that may have read.
+in a third window of the first user, directories that flags shield; then a window that is signalled by one that may have read; then one
+whose level moves as often as it may, with a clone, after objects of levels 1 and 2 were made for it.
 """
 
 import os
 import sys
 
-from model import (ADD_INHERITED, CLONE, CREATE, DELETE, DIRECTORY, EXECUTE, FILE, LOGIN, NO_EXECUTE, READ_ONLY, READ_OPEN, SEND_SIGNAL, SET_LEVEL,
-                   TERMINATE, WRITE, WRITE_OPEN)
+from model import (ADD_INHERITED, CHANNEL, CLONE, CONTROL, CREATE, DELETE, DIRECTORY, EXECUTE, FILE, GET_STATUS, LOGIN, MODIFY_ACCESS, NO_EXECUTE,
+                   READ_ONLY, READ_OPEN, READ_WRITE_OPEN, SEND_SIGNAL, SET_LEVEL, TERMINATE, WRITE, WRITE_OPEN)
 from records import object_record, switches_record, user_record
 
 DESIGNER, FITTER = 0, 1
 YARD_FOLDER, YARD_NOTES, HULL_LINES = 0, 1, 2
 RELEASED_DRAWINGS, RELEASED_SHEET, MEASURING_TOOLS, RULER, OWN_RULER, NEW_RULER = 3, 4, 5, 6, 7, 8
-LEFT, RIGHT, COPY, OTHER, SHIELD, RECEIVER = 0, 1, 2, 3, 4, 5
+BERTH_SETTINGS, CRANE_CHANNEL, CRANE_SETTINGS = 9, 10, 11      # made by calls, of levels 1, 1 and 2
+LEFT, RIGHT, COPY, OTHER, SHIELD, RECEIVER, MAKER, MOVER, MOVED_COPY = 0, 1, 2, 3, 4, 5, 6, 7, 8
 
 SETUP = (switches_record(1, 0, 0, 1)
          + user_record(3, 0, 0) + user_record(1, 0, 0)
@@ -62,6 +64,25 @@ CALLS = [
     (SEND_SIGNAL, COPY, RECEIVER, 0),
     (SET_LEVEL, RECEIVER, 0, 0),
     (WRITE_OPEN, RECEIVER, YARD_NOTES, 0),
+    (LOGIN, MAKER, 0, DESIGNER),
+    (SET_LEVEL, MAKER, 0, 1),                    # changes current, and is no move
+    (CREATE, MAKER, 0, CONTROL),                 # becomes BERTH_SETTINGS
+    (CREATE, MAKER, 0, CHANNEL),                 # becomes CRANE_CHANNEL
+    (SET_LEVEL, MAKER, 0, 2),
+    (CREATE, MAKER, 0, CONTROL),                 # becomes CRANE_SETTINGS
+    (LOGIN, MOVER, 0, DESIGNER),
+    (GET_STATUS, MOVER, BERTH_SETTINGS, 0),      # up to 1
+    (GET_STATUS, MOVER, BERTH_SETTINGS, 0),      # is there already
+    (WRITE_OPEN, MOVER, HULL_LINES, 0),          # up to 3
+    (MODIFY_ACCESS, MOVER, CRANE_SETTINGS, 0),   # down to 2
+    (CLONE, MOVER, MOVED_COPY, 0),
+    (READ_WRITE_OPEN, MOVED_COPY, CRANE_CHANNEL, 0),     # the clone's own move, down to 1
+    (MODIFY_ACCESS, MOVER, BERTH_SETTINGS, 0),   # down to 1, the last move
+    (READ_OPEN, MOVER, HULL_LINES, 0),           # above its write mark
+    (WRITE_OPEN, MOVER, YARD_NOTES, 0),          # below its read mark
+    (GET_STATUS, MOVER, BERTH_SETTINGS, 0),
+    (TERMINATE, MOVER, 0, 0),
+    (LOGIN, MOVER, 0, DESIGNER),
 ]
 
 

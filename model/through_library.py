@@ -1,14 +1,16 @@
 """Compares the library for C with the model: python3 -B model/through_library.py SEED CALLS
 
-Set-ups and lists of calls from the seed, until CALLS calls were made, through model/library.c: those of fuzz.py, and as many in which many users
-and objects meet calls that the modules judge. Each call is made by value and where the facility is. After each call its outcome, the sixteen
-counters of refusals, the calling process, the target as a process and the target as an object are compared, the object with its effective flags
-and where each comes from; after the last call the set-up written out, which must be read back, also into buffers that are too short or longer: of
-the first lists of each kind into those of every length up to 8 bytes beyond the need. Half of the lists begin with counters that C put into the
-facility, at their stop, next to it, or anywhere; in some C puts in marks of open objects, so that a write meets a read-only file, which no list of
-calls has open for writing, or levels and marks of a process, so that with MAC off there are levels other than 0, which no list of calls gives. Of
-some lists with accepted signals hv_holds is asked who holds whose matter, which it works out from the set-up and the calls. examples/c/library makes
-the library; cc, or what CC names, builds the program. Ends with the number of calls, or at the first difference.
+Set-ups and lists of calls from the seed, until CALLS calls were made, through model/library.c: those of fuzz.py, as many in which many users and
+objects meet calls that the modules judge, and as many in which levels move. Each call is made by value and where the facility is. After each call its
+outcome, the sixteen counters of refusals, the number of moves of every process, the calling process, the target as a process and the target as an
+object are compared, the object with its effective flags and where each comes from; after the last call the set-up written out, which must be read
+back, also into buffers that are too short or longer: of the first lists of each kind into those of every length up to 8 bytes beyond the need. Half
+of the lists begin with counters that C put into the facility, at their stop, next to it, or anywhere; in some C puts in marks of open objects, so
+that a write meets a read-only file, which no list of calls has open for writing, or levels and marks of a process, so that with MAC off there are
+levels other than 0, which no list of calls gives, or a number of moves, at its stop, next to it, or any. Where C put in no levels and no moves, each
+number of moves is held against the history of its process, and is at most the owner's clearance plus 1. Of some lists with accepted signals hv_holds
+is asked who holds whose matter, which it works out from the set-up and the calls. examples/c/library makes the library; cc, or what CC names, builds
+the program. Ends with the number of calls, or at the first difference.
 """
 
 import collections
@@ -20,6 +22,7 @@ import time
 
 import fuzz
 import model
+import moves
 from records import object_record, switches_record, user_record
 
 ROOT = os.path.abspath(os.path.join(os.path.dirname(os.path.abspath(__file__)), ".."))
@@ -27,7 +30,8 @@ PROGRAM = os.path.join(ROOT, "target", "c", "library")
 STOP = model.COUNTER_STOP
 OPENS = 254                   # a call of this request, which is none: C puts in marks of an open object before it
 LEVELS = 253                  # the same for the levels and marks of a process
-CALL_BYTES = 7 + 4 * model.MAX_USERS + 6 + 6 + 7 + 1 + 5
+MOVES = 252                   # the same for the number of moves of a process
+CALL_BYTES = 7 + 4 * model.MAX_USERS + model.PROCESSES + 7 + 7 + 7 + 1 + 5
 BATCH = 100
 EVERY = 12                    # so many lists are written out into buffers of every length
 BEYOND = 8
@@ -94,12 +98,68 @@ def meeting(rng, p, q):
     return calls + [(model.SET_LEVEL, q, 0, rng.randrange(4))] * (rng.random() < 0.5)
 
 
+# requests of each class, by kind; few deletes, so that something is left
+BY_CLASS = {letter: {kind: [request for request, of in requests.items() if of == letter and request != model.DELETE]
+                     for kind, requests in model.CLASSES.items()} for letter in "RWB"}
+
+
+def way(rng, clearance, kinds):
+    """Calls of a process, without it: up by reads, up by a write, down by writes to what was read, each level in turn or some left out, and
+    some that would move it once more. Objects 2 * L, a file, and 2 * L + 1 are of level L."""
+    each = rng.random() < 0.7
+    read = rng.randrange(max(1, clearance)) if each else rng.randrange(clearance + 1)
+    high = clearance if each else rng.randrange(read, clearance + 1)
+    steps = [(level, "R") for level in range(1, read + 1)] + [(level, "W") for level in range(high, read - 1, -1)]
+    steps[-1] = (steps[-1][0], rng.choice("WB"))
+    steps = [step for step in steps if each or rng.random() < 0.6]
+    steps += [(rng.randrange(len(kinds) // 2), rng.choice("RWB")) for _ in range(rng.randrange(4))]
+    calls = []
+    for level, letter in steps:
+        t = 2 * level + rng.randrange(2)
+        t = t if BY_CLASS[letter][kinds[t]] else 2 * level
+        request = rng.choice(BY_CLASS[letter][kinds[t]])
+        calls.append((request, t, rng.randrange(2)))
+    return calls
+
+
+def moving(rng):
+    """Few users, objects of each level, and processes and their clones that go such ways, one call of one and one of another."""
+    clearances = [rng.choice((0, 1, 2, 3, 3, 5, 15)) for _ in range(rng.randrange(1, 5))]
+    levels = min(max(clearances) + 1, model.TOP_LEVEL) + 1
+    kinds = [kind for _ in range(levels) for kind in (model.FILE, rng.randrange(4))]
+    setup = switches_record(rng.random() < 0.9, *(rng.random() < 0.2 for _ in range(3)))
+    setup += b"".join(user_record(clearance, rng.randrange(3), rng.random() < 0.1) for clearance in clearances)
+    setup += b"".join(object_record(kind, n // 2, rng.random() < 0.05, 0, rng.random() < 0.05) for n, kind in enumerate(kinds))
+    put_in, calls, left, most = rng.random() < 0.3, [], {}, rng.randrange(40, 200)
+    while len(calls) < most:
+        chance = rng.random()
+        p = rng.choice(sorted(left)) if left else rng.randrange(8)
+        if chance < 0.15 or not left:
+            p, user = rng.randrange(8), rng.randrange(len(clearances))
+            calls += [(model.TERMINATE, p, 0, 0), (model.LOGIN, p, 0, user)]
+            left[p] = way(rng, clearances[user], kinds)
+        elif chance < 0.2:
+            q = rng.randrange(8, 12)
+            calls += [(model.TERMINATE, q, 0, 0), (model.CLONE, p, q, 0)]
+            left[q] = list(left[p])
+        elif chance < 0.23:
+            calls.append(rng.choice(((model.SET_LEVEL, p, 0, rng.randrange(4)), (model.SEND_SIGNAL, p, rng.randrange(12), 0))))
+        elif chance < 0.28 and put_in:
+            calls.append((MOVES, p, rng.choice((253, 254, 255, rng.randrange(256))), 0))
+        elif left[p]:
+            request, t, e = left[p].pop(0)
+            calls.append((request, p, t, e))
+        else:
+            del left[p]
+    return setup, b"".join(map(bytes, calls))
+
+
 def record(facility, p):
     """A process as C is given it."""
     process = facility.processes[p] if p < model.PROCESSES else None
     if process is None:
-        return bytes(6)
-    return bytes((1, process.owner, process.current, process.read_mark, process.write_mark, process.automatic))
+        return bytes(7)
+    return bytes((1, process.owner, process.current, process.read_mark, process.write_mark, process.automatic, process.moves))
 
 
 def object_bytes(facility, t):
@@ -117,6 +177,12 @@ def put_levels(facility, p, t, e):
     if p < model.PROCESSES and facility.processes[p] is not None:
         process = facility.processes[p]
         process.current, process.read_mark, process.write_mark = e % 16, e // 16, t % 16
+
+
+def put_moves(facility, p, t):
+    """What C does before a call of request MOVES."""
+    if p < model.PROCESSES and facility.processes[p] is not None:
+        facility.processes[p].moves = t
 
 
 def put_marks(facility, p, t, marks):
@@ -148,46 +214,91 @@ def pairs_of(rng, account, without):
     return pairs + [(rng.choice(objects), rng.choice(objects)) for _ in range(PAIRS - len(pairs))] if objects else []
 
 
+def put_in(facility, call):
+    """What C puts in before a call."""
+    request, p, t, e = call
+    if request == OPENS:
+        put_marks(facility, p, t, e)
+    elif request == LEVELS:
+        put_levels(facility, p, t, e)
+    elif request == MOVES:
+        put_moves(facility, p, t)
+
+
+def call_bytes(facility, call, outcome):
+    """What the library gives of a call."""
+    carried = bytes(process.moves if process else 0 for process in facility.processes)
+    return (bytes(outcome) + words(facility.refusals) + carried + record(facility, call[1]) + record(facility, call[2])
+            + object_bytes(facility, call[2]))
+
+
+class Seen:
+    """What a call did, for the counts of the last line."""
+
+    def __init__(self, seen, facility, call):
+        self.seen, self.facility, self.call = seen, facility, call
+        self.refusals = list(facility.refusals)
+        self.caller, self.receiver = (facility.processes[n] if n < model.PROCESSES else None for n in call[1:3])
+        self.mark = self.receiver and self.receiver.read_mark
+
+    def after(self, outcome):
+        request, p, t, _ = self.call
+        seen, facility = self.seen, self.facility
+        if outcome.number in (12, 13):
+            seen["denied"] += 1
+            seen["at a stop"] += facility.refusals == self.refusals
+            seen["by FF"] += outcome.ff == model.NOT_GRANTED
+            seen["write"] += outcome.ff == model.NOT_GRANTED and request == model.WRITE and facility.objects[t].kind != model.DIRECTORY
+        if outcome.number != 0:
+            return
+        if request == model.SEND_SIGNAL:
+            seen["signals"] += 1
+            seen["raised"] += self.receiver.read_mark > self.mark
+        if model.needs_object(request, self.call[3]) and facility.processes[p].current != self.caller.current:
+            seen["moves"] += 1
+            seen["moves at the stop"] += self.caller.moves == model.MOVES_STOP
+
+
+def follow(setup, facility, calls, out, seen):
+    """Enforces a list, and puts what the library gives of each call behind `out`. The account after it, and the one without its signals."""
+    account, without = model.Account(setup), model.Account(setup)
+    # the history knows nothing of what C puts in
+    fresh = not any(request in (LEVELS, MOVES) for request in calls[:len(calls) // 4 * 4:4])
+    held = moves.Held(facility, setup)
+    for i in range(0, len(calls) - 3, 4):
+        call = tuple(calls[i:i + 4])
+        put_in(facility, call)
+        before = Seen(seen, facility, call)
+        outcome = held.enforce(call) if fresh else model.enforce(facility, call)
+        before.after(outcome)
+        out.append(call_bytes(facility, call, outcome))
+        account.note(call, outcome.number == 0)
+        if call[0] != model.SEND_SIGNAL:
+            without.note(call, outcome.number == 0)
+    if fresh:
+        held.hold_all()
+        seen["histories"] += held.compared
+        seen["at the bound"] += held.at_bound
+    return account, without
+
+
 def expected(rng, setup, begin, calls, every, seen):
     """What the library gives of a list, and the lengths of buffers and the pairs of the account that it is asked for."""
     number, index, facility = model.read_setup(setup)
     out = [bytes((number, index % 256, index // 256))]
+    if number != 0:
+        return b"".join(out), [], []
     facility.refusals = list(begin)
-    account, without = model.Account(setup), model.Account(setup)
-    signals = put_in = 0
-    for i in range(0, len(calls) - 3, 4) if number == 0 else ():
-        call = tuple(calls[i:i + 4])
-        before = list(facility.refusals)
-        receiver = facility.processes[call[2]] if call[2] < model.PROCESSES else None
-        if call[0] == OPENS:
-            put_marks(facility, *call[1:])
-        elif call[0] == LEVELS:
-            put_levels(facility, *call[1:])
-        put_in += call[0] in (OPENS, LEVELS)
-        mark = receiver and receiver.read_mark
-        outcome = model.enforce(facility, call)
-        out.append(bytes(outcome) + words(facility.refusals) + record(facility, call[1]) + record(facility, call[2]) + object_bytes(facility, call[2]))
-        account.note(call, outcome.number == 0)
-        if call[0] == model.SEND_SIGNAL:
-            signals += outcome.number == 0
-            seen["raised"] += outcome.number == 0 and receiver.read_mark > mark
-        else:
-            without.note(call, outcome.number == 0)
-        if outcome.number in (12, 13):
-            seen["denied"] += 1
-            seen["at a stop"] += facility.refusals == before
-            seen["by FF"] += outcome.ff == model.NOT_GRANTED
-            seen["write"] += outcome.ff == model.NOT_GRANTED and call[0] == model.WRITE and facility.objects[call[2]].kind != model.DIRECTORY
-    seen["signals"] += signals
-    rooms, pairs = [], []
-    if number == 0:
-        written = model.setup_bytes(facility)
-        rooms = rooms_of(rng, len(written), every)
-        out += [len(written).to_bytes(2, "little") + written] + [into(facility, room) for room in rooms]
-        seen["buffers"] += len(rooms)
-        seen["of every length"] += every
+    signals = seen["signals"]
+    account, without = follow(setup, facility, calls, out, seen)
+    written = model.setup_bytes(facility)
+    rooms = rooms_of(rng, len(written), every)
+    out += [len(written).to_bytes(2, "little") + written] + [into(facility, room) for room in rooms]
+    seen["buffers"] += len(rooms)
+    seen["of every length"] += every
+    pairs = []
     # the account knows nothing of what C puts in
-    if signals and not put_in:
+    if seen["signals"] > signals and not any(request in (OPENS, LEVELS, MOVES) for request in calls[:len(calls) // 4 * 4:4]):
         pairs = pairs_of(rng, account, without)
         out.append(bytes(account.object_holds(x, c) for x, c in pairs))
         seen["asked"] += len(pairs)
@@ -224,7 +335,7 @@ def main():
     rng = random.Random(seed)
     begun, made, lists, seen, batch = time.time(), 0, 0, collections.Counter(), []
     for case in fuzz.cases(rng):
-        for setup, calls in (case, busy(rng)):
+        for setup, calls in (case, busy(rng), moving(rng)):
             batch.append((setup, counters(rng), calls))
             made += len(calls) // 4
             lists += 1
@@ -234,10 +345,11 @@ def main():
         if made >= most:
             break
     print("seed %d: %d calls in %d lists through the library, %d denied, %d of them at a stop, %d by FF, %d of these a write; "
-          "%d signals accepted, %d of them raised a mark; the account asked %d times, %d of them true by a signal alone; "
-          "written into %d buffers, of every length for %d lists; none differs; %.0f s" % (
-              seed, made, lists, seen["denied"], seen["at a stop"], seen["by FF"], seen["write"], seen["signals"], seen["raised"], seen["asked"],
-              seen["by a signal"], seen["buffers"], seen["of every length"], time.time() - begun))
+          "%d signals accepted, %d of them raised a mark; %d moves, %d of them at the stop, %d numbers held against their history, %d lists at the bound; "
+          "the account asked %d times, %d of them true by a signal alone; written into %d buffers, of every length for %d lists; none differs; %.0f s" % (
+              seed, made, lists, seen["denied"], seen["at a stop"], seen["by FF"], seen["write"], seen["signals"], seen["raised"], seen["moves"],
+              seen["moves at the stop"], seen["histories"], seen["at the bound"], seen["asked"], seen["by a signal"], seen["buffers"],
+              seen["of every length"], time.time() - begun))
 
 
 if __name__ == "__main__":

@@ -75,6 +75,20 @@ def signal_setup(rng, switches):
     return data
 
 
+def move_setup(rng, switches):
+    """Users most of whom are untrusted, and objects of each level up to one above a clearance, so that a level can move step by step."""
+    top = rng.choice((0, 1, 2, 3, 3, 4, 5, 15))
+    data = switches_record(*switches) + user_record(top, rng.choice((0, 1)), 0)
+    for _ in range(rng.randint(0, 3)):
+        data += user_record(rng.choice((top, top, rng.randint(0, 15))), rng.randint(0, 2), int(rng.random() < 0.3))
+    for level in range(min(top + 1, model.TOP_LEVEL) + 1):
+        for kind in (FILE, *rng.sample(range(4), 2)):
+            category = 0 if rng.random() < 0.9 else rng.choice((1, 2, UNSET))
+            flags = rng.choice((READ_ONLY, NO_EXECUTE, NO_DELETE, SEARCH_ONLY)) if rng.random() < 0.1 else 0
+            data += object_record(kind, level, category, int(rng.random() < 0.1), flags)
+    return data
+
+
 def all_switches():
     return [(mac, fc, sim, ff) for mac in (0, 1) for fc in (0, 1) for sim in (0, 1)
             for ff in (0, 1)]
@@ -361,12 +375,12 @@ class Caller:
         moving = rng.random() < 0.6
         for _ in range(12):
             again = self.fitting(request)
-            if self.answer(call) != 0 or (moving and not self.moves(call)
-                                          and self.moves(again)):
+            if self.answer(call) != 0 or (moving and not self.moves_a_mark(call)
+                                          and self.moves_a_mark(again)):
                 call = again
         return call
 
-    def moves(self, call):
+    def moves_a_mark(self, call):
         """whether the call is accepted and moves a level or a mark"""
         outcome, moved = model.decide(self.facility, call)
         return (outcome.number == 0 and moved is not None
@@ -415,7 +429,7 @@ class Caller:
         tried = []
         for request in (WRITE_OPEN, READ_OPEN, READ_WRITE_OPEN):
             calls = [(request, p, t, self.unused()) for t in self.live([FILE])]
-            tried += [call for call in calls if self.moves(call)][:2]
+            tried += [call for call in calls if self.moves_a_mark(call)][:2]
         self.give((SET_LEVEL, p, self.unused(), self.rng.randint(0, 2)))
         for call in tried:
             self.give(call)
@@ -434,7 +448,7 @@ class Caller:
         ways = {FILE: (READ_OPEN, READ), CHANNEL: (READ_WRITE_OPEN, READ), DIRECTORY: (SEARCH,), CONTROL: (GET_STATUS,)}
         kind = self.rng.choice((FILE, FILE, CHANNEL, DIRECTORY, CONTROL))
         able = [t for t in self.live([kind]) if self.answer((ways[kind][0], p, t, 0)) == 0]
-        above = [t for t in able if self.moves((ways[kind][0], p, t, 0))]
+        above = [t for t in able if self.moves_a_mark((ways[kind][0], p, t, 0))]
         t = self.one_of(above or able or self.live([kind]))
         for request in ways[kind]:
             self.give((request, p, t, self.unused()))
@@ -554,6 +568,55 @@ class Caller:
             if self.rng.random() < 0.6:
                 self.give((TERMINATE, n, self.unused(), self.unused()))
 
+    def to_level(self, p, level, letters):
+        """A call of process p, of one of these classes, on an object of that level where there is one. Few deletes, so that something is left."""
+        rng = self.rng
+        found = [(request, t) for t in self.live() if self.facility.objects[t].level == level
+                 for request, letter in CLASSES[self.facility.objects[t].kind].items()
+                 if letter in letters and (request != DELETE or rng.random() < 0.05)]
+        request, t = rng.choice(found or [(READ_OPEN, self.one_of(self.live()))])
+        self.give((request, p, t, rng.randint(0, 1) if request == CREATE else self.unused()))
+
+    def way_of_moves(self, clearance):
+        """Levels and classes: up by reads, up by a write, and down by writes to what was read, each level in turn or some left out."""
+        each = self.rng.random() < 0.7
+        read = self.rng.randint(0, max(0, clearance - 1 if each else clearance))
+        high = clearance if each else self.rng.randint(read, clearance)
+        way = [(level, "R") for level in range(1, read + 1)] + [(level, "W") for level in range(high, read - 1, -1)]
+        if self.rng.random() < 0.5:
+            way[-1] = (way[-1][0], "B")
+        return [step for step in way if each or self.rng.random() < 0.6]
+
+    def settle(self):
+        """A login whose level moves to where it settles; clones made on the way go the rest of it too; then calls that would move it."""
+        rng, users = self.rng, self.facility.users
+        untrusted = [n for n, user in enumerate(users) if not user.trusted]
+        user = rng.choice(untrusted if untrusted and rng.random() < 0.85 else range(len(users)))
+        p = self.one_of([n for n in self.free() if n < 8] or self.free(), 31)
+        self.give((LOGIN, p, self.unused(), user))
+        group = [p]
+        for level, letters in self.way_of_moves(users[user].clearance):
+            for q in group:
+                self.to_level(q, level, letters)
+                if rng.random() < 0.1:
+                    self.to_level(q, level, "R")
+            if self.free() and rng.random() < 0.12 and len(group) < 3:
+                group.append(rng.choice(self.free()))
+                self.give((CLONE, rng.choice(group[:-1]), group[-1], self.unused()))
+            if rng.random() < 0.04:
+                self.give(rng.choice(((SET_LEVEL, p, 0, level), (SEND_SIGNAL, p, p, 0), (SET_LEVEL, p, 0, rng.randint(0, 3)))))
+        for q in group:
+            self.wander(q)
+            if rng.random() < 0.6:
+                self.give((TERMINATE, q, self.unused(), self.unused()))
+
+    def wander(self, p=None):
+        """A call of any class at any level up to one above the clearance."""
+        p = self.one_of(self.running(), 31) if p is None else p
+        process = self.facility.processes[p]
+        clearance = self.facility.users[process.owner].clearance if process else TOP
+        self.to_level(p, self.rng.randint(0, min(clearance + 1, model.TOP_LEVEL)), self.rng.choice(("R", "W", "W", "B")))
+
     def signals(self):
         """Signals between two processes, before and after one of them moves."""
         for _ in range(2):
@@ -570,7 +633,7 @@ class Caller:
         self.give((SEND_SIGNAL, p, q, self.unused()))
         e = self.rng.randint(1, 3)
         calls = [(READ_OPEN, p, t, 0) for t in self.live([FILE])]
-        calls = [call for call in calls if self.moves(call)] + [(SET_LEVEL, p, 0, e)]
+        calls = [call for call in calls if self.moves_a_mark(call)] + [(SET_LEVEL, p, 0, e)]
         self.give(self.rng.choice(calls))
         self.give((SEND_SIGNAL, p, q, self.unused()))
         self.give((SEND_SIGNAL, q, p, self.unused()))
@@ -709,6 +772,14 @@ class Caller:
                 self.give(self.fitting(LOGIN))
             self.rng.choice(ways)()
 
+    def go_with_moves(self, count):
+        ways = (self.settle, self.settle, self.settle, self.settle, self.wander, self.wander, self.wander, self.wander, self.again,
+                self.clone_and_try, self.fixed_level, self.step, self.step)
+        while len(self.calls) < count:
+            if not self.running():
+                self.give(self.fitting(LOGIN))
+            self.rng.choice(ways)()
+
     def go_in_tree(self, count):
         ways = (self.make_and_try, self.make_and_try, self.end_a_shield, self.delete_directory, self.delete_below,
                 self.try_flagged, self.try_flagged, self.step, self.step)
@@ -842,6 +913,15 @@ def signal_case(rng, serial):
     return finish(rng, caller, serial, 0)
 
 
+def move_case(rng, serial):
+    """Processes whose level moves, MAC on in seven of eight, mostly alone."""
+    mac = int(serial % 8 != 7)
+    others = rng.choice(((0, 0, 0), (0, 0, 0), (0, 0, 1), (1, 0, 0), (1, 1, 1))) if mac else all_switches()[(6 + serial // 8 * 3) % 8][1:]
+    caller = Caller(rng, move_setup(rng, (mac,) + others))
+    caller.go_with_moves(rng.randint(110, 190))
+    return finish(rng, caller, serial, 0)
+
+
 def finish(rng, caller, serial, count):
     caller.go(count)
     left_over = serial % 8 if serial % 8 < 4 else 0
@@ -851,7 +931,7 @@ def finish(rng, caller, serial, count):
 
 MAKERS = {"full": full_case, "growing": growing_case, "bare": bare_case,
           "answers": answers_case, "tree": tree_case, "signals": signal_case,
-          "ordinary": ordinary_case}
+          "moves": move_case, "ordinary": ordinary_case}
 
 
 def some_case(rng):
@@ -871,6 +951,7 @@ def make_cases(rng, count):
     plan += [("answers", n) for n in range(12)]
     plan += [("tree", n) for n in range(32)]
     plan += [("signals", n) for n in range(24)]
+    plan += [("moves", n) for n in range(24)]
     plan += [("worked example", 0)]
     plan = plan[:count]
     plan += [("ordinary", n) for n in range(count - len(plan))]
@@ -913,7 +994,8 @@ def expected_lines(number, setup, calls):
     refusals = " ".join(str(n) for n in facility.refusals)
     flags = sum((t + 1) * model.effective_flags(facility, t) for t in range(entered)
                 if facility.objects[t].live) % 4294967296
-    lines.append("state %d %s %d %d %d %d" % (len(calls) // 4, refusals, entered, len(out), weighed, flags))
+    moves = sum((p + 1) * process.moves for p, process in enumerate(facility.processes) if process) % 4294967296
+    lines.append("state %d %s %d %d %d %d %d" % (len(calls) // 4, refusals, entered, len(out), weighed, flags, moves))
     holds = sum(1 for x in range(entered) for c in range(entered)
                 if account.object_holds(x, c))
     lines.append("matter %d" % holds)
@@ -943,14 +1025,16 @@ def coverage(cases):
             count["left-over bytes %d" % (len(calls) % 4)] += 1
         ended = set()
         account = model.Account(setup)
-        sent = Sent(count, facility, account)
+        sent, moved = Sent(count, facility, account), Moved(count, facility, setup)
         set_up = len(facility.objects)
         for i in range(0, len(calls) - 3, 4):
             call = tuple(calls[i:i + 4])
             cover_flags(count, facility, call, model.query(facility, call), set_up)
             sent.before(call)
+            moved.before(call)
             outcome = cover_call(count, facility, account, call, ended)
             sent.after(call, outcome)
+            moved.after(call, outcome)
         cover_writing(count, facility, set_up)
     return count
 
@@ -1169,6 +1253,80 @@ class Sent:
                 self.count["a channel's matter reached a higher file by a signal"] += self.facility.mac_on and objects[c].level < objects[t].level
 
 
+class Moved:
+    """What moves a list has, and what changes or could change a level and is none; the number of each process against its history."""
+
+    def __init__(self, count, facility, setup):
+        self.count, self.facility, self.history = count, facility, model.History(setup)
+        self.cloned = set()                  # processes that are clones
+        self.last = collections.Counter()    # by process number: the moves of the process that ended there
+
+    def before(self, call):
+        request, p, t, e = call
+        self.currents = model.currents(self.facility)
+        self.process = self.facility.processes[p] if p < model.PROCESSES else None
+        judged = model.query(self.facility, call).number in (0, 12, 13)
+        self.letter = model.class_of(self.facility, request, t, e) if judged else None
+        self.level = self.facility.objects[t].level if self.letter else None
+        self.foreseen = model.mac_answer(self.facility, *call)[1] if judged else None
+
+    def after(self, call, outcome):
+        request, p, t, _ = call
+        after = model.currents(self.facility)
+        self.history.note(call, outcome.number == 0, self.currents, after)
+        for q, process in enumerate(self.facility.processes):
+            if process:
+                assert process.moves == self.history.moves(q) <= model.most_moves(self.facility, q), (call, q, process.moves)
+        if self.letter in ("R", "W", "B"):
+            self.by_class(p, outcome, after)
+        if outcome.number != 0:
+            return
+        if request == SET_LEVEL:
+            self.count["set-level changed the level"] += after[p] != self.currents[p]
+        elif request == CLONE:
+            self.cloned.add(t)
+            self.count["clone of a process that moved"] += self.process.moves > 0
+        elif request == LOGIN:
+            self.cloned.discard(p)
+            self.count["login after a process that moved"] += self.last[p] > 0
+        elif request == TERMINATE:
+            self.last[p] = self.process.moves
+
+    def by_class(self, p, outcome, after):
+        count, owner = self.count, self.facility.users[self.process.owner]
+        if outcome.number != 0:
+            # MAC's yes and a move, another module's no
+            count["a move refused by another module"] += self.foreseen is not None and self.foreseen.current != self.currents[p]
+        elif not self.facility.mac_on or owner.trusted:
+            sort = "MAC off" if not self.facility.mac_on else "a trusted owner"
+            count["no move at another level, %s" % sort] += self.level != self.currents[p]
+        elif after[p] == self.currents[p]:
+            count["%s left the level" % self.letter] += 1
+            count["%s left the level where it had moved" % self.letter] += self.process.moves > 0
+            count["left the level, clearance 0"] += owner.clearance == 0
+        else:
+            way = "up" if after[p] > self.currents[p] else "down"
+            at_bound = self.facility.processes[p].moves == owner.clearance + 1
+            count["move %s by %s" % (way, self.letter)] += 1
+            count["move of a clone"] += p in self.cloned
+            count["move to the bound by %s" % self.letter] += at_bound
+            count["move of a clone to the bound"] += at_bound and p in self.cloned
+            count["move to the bound, clearance %d" % owner.clearance] += at_bound
+
+
+def assert_moves(count, least):
+    for key in ("move up by R", "move up by W", "move down by W", "move up by B", "move down by B", "R left the level", "W left the level",
+                "B left the level", "R left the level where it had moved", "W left the level where it had moved",
+                "B left the level where it had moved", "left the level, clearance 0", "no move at another level, MAC off",
+                "no move at another level, a trusted owner", "a move refused by another module", "set-level changed the level",
+                "clone of a process that moved", "move of a clone", "login after a process that moved", "move to the bound by W",
+                "move to the bound by B", "move of a clone to the bound"):
+        least(key, 10)
+    for clearance in (1, 2, 3, 15):
+        least("move to the bound, clearance %d" % clearance, 1)
+    assert not any(count[key] for key in ("move down by R", "move to the bound by R", "move to the bound, clearance 0"))
+
+
 def assert_coverage(count):
     def least(key, number):
         assert count[key] >= number, "coverage: %s is %d, below %d" % (
@@ -1220,6 +1378,7 @@ def assert_coverage(count):
     least("signal of a trusted sender raised the mark", 5)
     least("a channel's matter reached a higher file by a signal", 5)
     assert count["signal left a mark below the level, an untrusted receiver"] == 0
+    assert_moves(count, least)
     least("128th object", 5)
     least("longest set-up", 1)
     least("refused set-up with left-over bytes", 5)

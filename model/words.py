@@ -26,8 +26,9 @@ def process_words(facility, p):
     process = facility.processes[p] if p < model.PROCESSES else None
     if process is None:
         return "not running"
-    return "user %d, clearance %d, current %d, marks %d to %d" % (
-        process.owner, facility.users[process.owner].clearance, process.current, process.read_mark, process.write_mark)
+    clearance = facility.users[process.owner].clearance
+    return "user %d, clearance %d, current %d, marks %d to %d, moved %d times of at most %d" % (
+        process.owner, clearance, process.current, process.read_mark, process.write_mark, process.moves, clearance + 1)
 
 
 def object_words(facility, t):

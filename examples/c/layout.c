@@ -42,22 +42,39 @@ _Static_assert(offsetof(hv_facility, refusals) == 4984, "refusals");
 _Static_assert(offsetof(hv_facility, ff) == 5048, "ff");
 _Static_assert(offsetof(hv_facility, flags) == 5049, "flags");
 _Static_assert(offsetof(hv_facility, parents) == 5177, "parents");
-_Static_assert(sizeof(hv_facility) == 5308, "facility");
-_Static_assert(offsetof(hv_enforced, outcome) == 5308 && sizeof(hv_enforced) == 5316, "enforced");
-_Static_assert(offsetof(hv_reading, number) == 5308 && offsetof(hv_reading, index) == 5310 && sizeof(hv_reading) == 5312, "reading");
-_Static_assert(offsetof(hv_printed, length) == 5312 && sizeof(hv_printed) == 5320, "printed");
+_Static_assert(offsetof(hv_facility, moves) == 5305, "moves");
+_Static_assert(sizeof(hv_facility) == 5340, "facility");
+_Static_assert(offsetof(hv_enforced, outcome) == 5340 && sizeof(hv_enforced) == 5348, "enforced");
+_Static_assert(offsetof(hv_reading, number) == 5340 && offsetof(hv_reading, index) == 5342 && sizeof(hv_reading) == 5344, "reading");
+_Static_assert(offsetof(hv_printed, length) == 5344 && sizeof(hv_printed) == 5352, "printed");
 _Static_assert(sizeof(hv_outcome) == 7 && offsetof(hv_outcome, object) == 5 && offsetof(hv_outcome, ff) == 6, "outcome");
 _Static_assert(sizeof(hv_writing) == 16 && offsetof(hv_writing, number) == 8, "writing");
-_Static_assert(sizeof(hv_user_record) == 3 && sizeof(hv_process_record) == 6 && sizeof(hv_object_record) == 7, "records");
+_Static_assert(sizeof(hv_user_record) == 3 && sizeof(hv_process_record) == 7 && sizeof(hv_object_record) == 7, "records");
+_Static_assert(offsetof(hv_process_record, automatic) == 5 && offsetof(hv_process_record, moves) == 6, "process record");
 _Static_assert(offsetof(hv_object_record, flags) == 5 && offsetof(hv_object_record, parent) == 6, "object record");
 _Static_assert(sizeof(hv_summary_record) == 6 && offsetof(hv_summary_record, entered) == 4 && offsetof(hv_summary_record, ff) == 5, "summary");
 
 /* The paddings: from, and behind the last byte. */
 enum { PAD = offsetof(hv_facility, opens) + HV_PROCESSES * HV_OBJECTS, PAD_END = offsetof(hv_facility, refusals) };
-enum { TAIL = offsetof(hv_facility, parents) + HV_OBJECTS, TAIL_END = sizeof(hv_facility) };
-_Static_assert(PAD == 4981 && PAD_END == 4984 && TAIL == 5305 && TAIL_END == 5308, "paddings");
+enum { TAIL = offsetof(hv_facility, moves) + HV_PROCESSES, TAIL_END = sizeof(hv_facility) };
+_Static_assert(PAD == 4981 && PAD_END == 4984 && TAIL == 5337 && TAIL_END == 5340, "paddings");
 
 static const uint8_t each_flag[] = {HV_READ_ONLY, HV_NO_EXECUTE, HV_NO_DELETE, HV_SEARCH_ONLY, HV_ADD_INHERITED};
+
+static void processes(hv_facility f)
+{
+    for (int p = 0; p < 256; p++) {
+        hv_process_record r = hv_process(f, (uint8_t)p);
+        int is = p < HV_PROCESSES;
+        expect(r.running == (is ? f.runnings[p] : 0), "running", p);
+        expect(r.owner == (is ? f.owners[p] : 0), "owner", p);
+        expect(r.current == (is ? f.currents[p] : 0), "current", p);
+        expect(r.readmark == (is ? f.readmarks[p] : 0), "read mark", p);
+        expect(r.writemark == (is ? f.writemarks[p] : 0), "write mark", p);
+        expect(r.automatic == (is ? f.automatics[p] : 0), "automatic", p);
+        expect(r.moves == (is ? f.moves[p] : 0), "moves", p);
+    }
+}
 
 /* Each field of a facility of random bytes, as C has it and as the library reads it. */
 static void fields(hv_facility f)
@@ -70,16 +87,7 @@ static void fields(hv_facility f)
         expect(r.trusted == (is ? f.trusts[u] : 0), "trusted", u);
         expect(hv_refusals(f, (uint8_t)u) == (is ? f.refusals[u] : 0), "refusals", u);
     }
-    for (int p = 0; p < 256; p++) {
-        hv_process_record r = hv_process(f, (uint8_t)p);
-        int is = p < HV_PROCESSES;
-        expect(r.running == (is ? f.runnings[p] : 0), "running", p);
-        expect(r.owner == (is ? f.owners[p] : 0), "owner", p);
-        expect(r.current == (is ? f.currents[p] : 0), "current", p);
-        expect(r.readmark == (is ? f.readmarks[p] : 0), "read mark", p);
-        expect(r.writemark == (is ? f.writemarks[p] : 0), "write mark", p);
-        expect(r.automatic == (is ? f.automatics[p] : 0), "automatic", p);
-    }
+    processes(f);
     for (int t = 0; t < 256; t++) {
         hv_object_record r = hv_object(f, (uint8_t)t);
         int is = t < HV_OBJECTS;
@@ -167,6 +175,7 @@ static hv_facility likely(void)
     each_below(f.writemarks, sizeof f.writemarks, 16);
     each_below(f.automatics, sizeof f.automatics, 2);
     each_below(f.opens, sizeof f.opens, 4);
+    for (int p = 0; p < HV_PROCESSES; p++) f.moves[p] = below(3) ? below(256) : (uint8_t)(255 - below(2));   /* some at the stop, or next to it */
     for (int t = 0; t < HV_OBJECTS; t++) {
         if (f.levels[t] == 16) f.levels[t] = HV_UNSET;
         if (f.categories[t] == 3) f.categories[t] = HV_UNSET;
@@ -287,6 +296,55 @@ static void signals(void)
     expect(!hv_holds(setup, sizeof setup, list, sizeof list, 1, 0), "matter of a refused signal", 1);
 }
 
+/* A call by value and where the facility is: both accept it, the number of moves of process p is then this one, and nobody else's has changed. */
+static void move_of(hv_facility *f, uint8_t request, uint8_t p, uint8_t t, uint8_t e, uint8_t moves, const char *what)
+{
+    hv_facility before = *f;
+    hv_enforced r = hv_enforce(*f, request, p, t, e);
+    hv_outcome o = hv_enforce_at(f, request, p, t, e);
+    uint8_t q = request == HV_CLONE ? t : p;
+    before.moves[q] = moves;
+    expect(o.number == HV_ACCEPTED && r.outcome.number == HV_ACCEPTED, what, o.number);
+    expect(memcmp(f->moves, before.moves, sizeof before.moves) == 0, what, f->moves[q]);
+    expect(memcmp(r.facility.moves, before.moves, sizeof before.moves) == 0, what, r.facility.moves[q]);
+    expect(hv_process(*f, q).moves == moves && hv_process(r.facility, q).moves == moves, what, hv_process(*f, q).moves);
+}
+
+/* Moves of process 0, of an untrusted user of clearance 2, up to the bound, and what is no move; then the stop, which only bytes that C put in come
+ * near. Files of levels 0 to 2 have the numbers 0 to 2; user 1 is trusted. */
+static void moves(void)
+{
+    static const uint8_t setup[] = {
+        3, 1, 0, 0, 0, 0, 0, 0,
+        1, 2, HV_GENERAL, 0, 0, 0, 0, 0,
+        1, 2, HV_GENERAL, 1, 0, 0, 0, 0,
+        2, HV_FILE, 0, 0, 0, 0, 0, 0,
+        2, HV_FILE, 1, 0, 0, 0, 0, 0,
+        2, HV_FILE, 2, 0, 0, 0, 0, 0,
+    };
+    hv_facility f = hv_read_setup(setup, sizeof setup).facility;
+    f.moves[0] = 9;
+    move_of(&f, HV_LOGIN, 0, 0, 0, 0, "moves at login");
+    move_of(&f, HV_WRITE_OPEN, 0, 2, 0, 1, "a move up");
+    move_of(&f, HV_READ_OPEN, 0, 0, 0, 1, "a read that leaves the level");
+    move_of(&f, HV_WRITE_OPEN, 0, 1, 0, 2, "a move down");
+    move_of(&f, HV_CLONE, 0, 3, 0, 2, "moves of a clone");
+    move_of(&f, HV_READ_WRITE_OPEN, 0, 0, 0, 3, "a move to the bound");
+    move_of(&f, HV_READ_WRITE_OPEN, 0, 0, 0, 3, "a level that has settled");
+    expect(hv_enforce_at(&f, HV_READ_OPEN, 0, 2, 0).number == HV_DENIED && f.moves[0] == 3, "a refused call at the bound", f.moves[0]);
+    move_of(&f, HV_SET_LEVEL, 3, 0, 0, 2, "set-level");
+    move_of(&f, HV_TERMINATE, 3, 0, 0, 0, "moves after terminate");
+    move_of(&f, HV_LOGIN, 3, 0, 1, 0, "moves at a trusted user's login");
+    move_of(&f, HV_READ_OPEN, 3, 2, 0, 0, "a trusted owner's read above its level");
+    move_of(&f, HV_LOGIN, 4, 0, 0, 0, "moves at a second login");
+    f.moves[4] = 254;
+    move_of(&f, HV_READ_OPEN, 4, 1, 0, 255, "a move to the stop");
+    move_of(&f, HV_READ_OPEN, 4, 2, 0, 255, "a move at the stop");
+    f.mac = 0;
+    move_of(&f, HV_LOGIN, 5, 0, 0, 0, "moves at a login with MAC off");
+    move_of(&f, HV_READ_WRITE_OPEN, 5, 2, 0, 0, "a call with MAC off");
+}
+
 /* The same calls by value and where the facility is: outcome and facility are the same, and the paddings stay. */
 static void both_ways(hv_facility f)
 {
@@ -336,6 +394,7 @@ int main(void)
     }
     shield();
     signals();
+    moves();
     printf("layout: %d checks, %d differ\n", checks, failures);
     return failures != 0;
 }

@@ -40,7 +40,8 @@ static void say_why(hv_facility f, uint8_t process, uint8_t object, hv_outcome o
     hv_object_record t = hv_object(f, object);
     switch (o.number) {
     case HV_ACCEPTED:
-        printf("accepted; current level %d, read mark %d, write mark %d\n", p.current, p.readmark, p.writemark);
+        printf("accepted; current level %d, read mark %d, write mark %d; moved %d times of at most %d\n", p.current, p.readmark, p.writemark, p.moves,
+               hv_user(f, p.owner).clearance + 1);
         break;
     case HV_DENIED:
         printf("refused with %d: MAC %s, FC %s, SIM %s, FF %s\n", o.number, answer_name(o.mac), answer_name(o.fc), answer_name(o.sim),

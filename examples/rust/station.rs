@@ -4,7 +4,7 @@
 /// A facility: its bytes are the library's (include/hvozdalka.h names the fields).
 #[repr(C, align(4))]
 #[derive(Clone, Copy)]
-pub struct Facility([u8; 5308]);
+pub struct Facility([u8; 5340]);
 
 #[repr(C)]
 #[derive(Clone, Copy)]
@@ -35,12 +35,22 @@ pub struct Process {
     pub readmark: u8,
     pub writemark: u8,
     pub automatic: u8,
+    pub moves: u8,
+}
+
+#[repr(C)]
+#[derive(Clone, Copy)]
+pub struct User {
+    pub clearance: u8,
+    pub role: u8,
+    pub trusted: u8,
 }
 
 extern "C" {
     fn hv_read_setup(bytes: *const u8, length: usize) -> Reading;
     fn hv_query_at(f: *const Facility, request: u8, process: u8, target: u8, extra: u8) -> Outcome;
     fn hv_enforce_at(f: *mut Facility, request: u8, process: u8, target: u8, extra: u8) -> Outcome;
+    fn hv_user(f: Facility, user: u8) -> User;
     fn hv_process(f: Facility, process: u8) -> Process;
     fn hv_refusals(f: Facility, user: u8) -> u32;
     fn hv_flag_source(f: Facility, object: u8, flag: u8) -> u8;
@@ -84,6 +94,10 @@ impl Facility {
         unsafe { hv_process(*self, process) }
     }
 
+    pub fn user(&self, user: u8) -> User {
+        unsafe { hv_user(*self, user) }
+    }
+
     /// The object whose own flag it is that an object has among its effective ones.
     pub fn flag_source(&self, object: u8, flag: u8) -> Option<u8> {
         let source = unsafe { hv_flag_source(*self, object, flag) };
@@ -115,8 +129,13 @@ fn main() {
         assert_eq!(foretold, outcome);
         let p = f.process(0);
         println!(
-            "{words}: number {}; current level {}, read mark {}, write mark {}",
-            outcome.number, p.current, p.readmark, p.writemark
+            "{words}: number {}; current level {}, read mark {}, write mark {}; moved {} times of at most {}",
+            outcome.number,
+            p.current,
+            p.readmark,
+            p.writemark,
+            p.moves,
+            f.user(p.owner).clearance + 1
         );
         if outcome.ff == NOT_GRANTED {
             if let Some(source) = f.flag_source(target, READ_ONLY) {

@@ -24,6 +24,7 @@ pub fn view_of(f: Facility, c: Call) -> View
         &f.readmarks,
         &f.writemarks,
         &f.automatics,
+        &f.moves,
         p,
     );
     let receiver = state::process_at(
@@ -33,6 +34,7 @@ pub fn view_of(f: Facility, c: Call) -> View
         &f.readmarks,
         &f.writemarks,
         &f.automatics,
+        &f.moves,
         t,
     );
     let owner = state::user_at(&f.clearances, &f.roles, &f.trusts, caller.owner as usize);

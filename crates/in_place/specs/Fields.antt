@@ -7,7 +7,7 @@ use lib.Dec.{eqb}
 use lib.ListN.{length}
 use Rattle.in_place.specs.Layout.{fieldOf, wholeSize, theMac, theFc, theSim, theUsers, theEntered, theClearances, theRoles, theTrusts, theLives}
 use Rattle.in_place.specs.Layout.{theKinds, theLevels, theCategories, theDatatypes, theRunnings, theOwners, theCurrents, theReadmarks, theWritemarks}
-use Rattle.in_place.specs.Layout.{theAutomatics, theFf, theFlags, theParents}
+use Rattle.in_place.specs.Layout.{theAutomatics, theFf, theFlags, theParents, theMoves}
 use Rattle.state.specs.State.{Users, Objects, Processes}
 use Rattle.labels.specs.Decisions.{at}
 use Rattle.state.specs.declared.Facility.{Facility}
@@ -37,8 +37,8 @@ objectsPut g x =
 
 abbrev pub processesPut : (ℕ → List ℕ) → Processes → ℕ → List ℕ
 processesPut g x =
-    putField (putField (putField (putField (putField (putField g theRunnings (x .runnings)) theOwners (x .owners)) theCurrents (x .currents))
-    theReadmarks (x .readmarks)) theWritemarks (x .writemarks)) theAutomatics (x .automatics)
+    putField (putField (putField (putField (putField (putField (putField g theRunnings (x .runnings)) theOwners (x .owners))
+    theCurrents (x .currents)) theReadmarks (x .readmarks)) theWritemarks (x .writemarks)) theAutomatics (x .automatics)) theMoves (x .moves)
 
 -- the bytes of a facility: as many as the struct has, each below 256
 pub record Bytes (m : List ℕ) : Type 0 where

@@ -10,8 +10,8 @@ use Rattle.state.specs.declared.Facility.{Facility}
 -- the sizes of the fields in order; the two of 3 bytes are padding
 abbrev pub sizes : List ℕ
 sizes =
-    1 ∷ 1 ∷ 1 ∷ 1 ∷ 16 ∷ 16 ∷ 16 ∷ 1 ∷ 128 ∷ 128 ∷ 128 ∷ 128 ∷ 128 ∷ 32 ∷ 32 ∷ 32 ∷ 32 ∷ 32 ∷ 32 ∷ 4096 ∷ 3 ∷ 64 ∷ 1 ∷ 128 ∷ 128 ∷ 3
-    ∷ []
+    1 ∷ 1 ∷ 1 ∷ 1 ∷ 16 ∷ 16 ∷ 16 ∷ 1 ∷ 128 ∷ 128 ∷ 128 ∷ 128 ∷ 128 ∷ 32 ∷ 32 ∷ 32 ∷ 32 ∷ 32 ∷ 32 ∷ 4096 ∷ 3 ∷ 64 ∷ 1 ∷ 128 ∷ 128
+    ∷ 32 ∷ 3 ∷ []
 
 abbrev pub size : ℕ → ℕ
 size k = at sizes k
@@ -96,8 +96,11 @@ theFlags = suc theFf
 abbrev pub theParents : ℕ
 theParents = suc theFlags
 
+abbrev pub theMoves : ℕ
+theMoves = suc theParents
+
 abbrev pub theLastPadding : ℕ
-theLastPadding = suc theParents
+theLastPadding = suc theMoves
 
 -- the last of them, and so the bytes of a facility
 abbrev pub lastField : ℕ
@@ -149,6 +152,7 @@ facilityOf g =
       ff = at (g theFf) 0;
       flags = g theFlags;
       parents = g theParents;
+      moves = g theMoves;
     }
 
 -- the facility of bytes

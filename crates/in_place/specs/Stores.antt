@@ -7,7 +7,7 @@ use lib.Dec.{ltb, eqb}
 use lib.ListN.{set}
 use Rattle.in_place.specs.Layout.{fieldOf, thePadding, theLastPadding, facilityAt, theCategories, theDatatypes, theKinds, theLevels, theLives}
 use Rattle.in_place.specs.Layout.{theFlags, theParents}
-use Rattle.in_place.specs.Layout.{theRunnings, theOwners, theCurrents, theReadmarks, theWritemarks, theAutomatics}
+use Rattle.in_place.specs.Layout.{theRunnings, theOwners, theCurrents, theReadmarks, theWritemarks, theAutomatics, theMoves}
 use Rattle.state.specs.declared.Process.{Process}
 use Rattle.state.specs.declared.Facility.{Facility}
 use Rattle.state.specs.declared.Object.{Object}
@@ -33,9 +33,9 @@ Becomes s m f = (facilityAt m ≡ f) × (padding m ≡ padding s)
 -- the stores of a process, and of an object
 abbrev pub storeProcess : (ℕ → List ℕ) → ℕ → Process → ℕ → List ℕ
 storeProcess g p r =
-    storeField (storeField (storeField (storeField (storeField (storeField g theRunnings p (r .running)) theOwners p (r .owner))
+    storeField (storeField (storeField (storeField (storeField (storeField (storeField g theRunnings p (r .running)) theOwners p (r .owner))
     theCurrents p (r .current .level)) theReadmarks p (r .readmark .level)) theWritemarks p (r .writemark .level))
-    theAutomatics p (r .automatic)
+    theAutomatics p (r .automatic)) theMoves p (r .moves)
 
 abbrev pub storeObject : (ℕ → List ℕ) → ℕ → Object → ℕ → List ℕ
 storeObject g i o =

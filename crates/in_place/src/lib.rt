@@ -93,7 +93,9 @@ const FLAGS: u16 = FF + 1;
 
 const PARENTS: u16 = FLAGS + OBJECT_COUNT;
 
-const LAST_PADDING: u16 = PARENTS + OBJECT_COUNT;
+const MOVES: u16 = PARENTS + OBJECT_COUNT;
+
+const LAST_PADDING: u16 = MOVES + PROCESS_COUNT;
 // Three more bytes of padding end the struct, whose size is a multiple of four.
 pub const SIZE: usize = (LAST_PADDING as usize) + 3;
 
@@ -127,6 +129,7 @@ fn process_in(s: &[u8], p: u8) -> Process
         readmark: label_in(s, READMARKS, PROCESS_COUNT, i),
         writemark: label_in(s, WRITEMARKS, PROCESS_COUNT, i),
         automatic: byte_in(s, AUTOMATICS, PROCESS_COUNT, i),
+        moves: byte_in(s, MOVES, PROCESS_COUNT, i),
     }
 }
 
@@ -348,6 +351,7 @@ fn put_process(s: &mut [u8], p: u8, r: Process)
     put_in(s, READMARKS, PROCESS_COUNT, i, r.readmark.level);
     put_in(s, WRITEMARKS, PROCESS_COUNT, i, r.writemark.level);
     put_in(s, AUTOMATICS, PROCESS_COUNT, i, r.automatic);
+    put_in(s, MOVES, PROCESS_COUNT, i, r.moves);
 }
 
 // The marks of process p on object t become v.
@@ -621,12 +625,13 @@ fn put_processes<'a>(
     readmarks: &'a [u8],
     writemarks: &'a [u8],
     automatics: &'a [u8],
+    moves: &'a [u8],
 )
     requires { ⌜ (length (now s) ≡ wholeSize) × ProcessesShaped (processesFrom (now runnings) (now owners) (now currents) (now readmarks) (now writemarks)
-        (now automatics)) ⌝ }
+        (now automatics) (now moves)) ⌝ }
     ensures { λ x. ⌜ Fields (now (s .exit)) (processesPut (fieldOf (now (s .entry)))
         (processesFrom (now (runnings .entry)) (now (owners .entry)) (now (currents .entry)) (now (readmarks .entry)) (now (writemarks .entry))
-        (now (automatics .entry)))) ⌝ }
+        (now (automatics .entry)) (now (moves .entry)))) ⌝ }
 {
     put_array(s, RUNNINGS, runnings);
     put_array(s, OWNERS, owners);
@@ -634,6 +639,7 @@ fn put_processes<'a>(
     put_array(s, READMARKS, readmarks);
     put_array(s, WRITEMARKS, writemarks);
     put_array(s, AUTOMATICS, automatics);
+    put_array(s, MOVES, moves);
 }
 
 // The counters of all users.
@@ -673,6 +679,7 @@ fn store(f: Facility, s: &mut [u8])
         &f.readmarks,
         &f.writemarks,
         &f.automatics,
+        &f.moves,
     );
     put_array(s, OPENS, &f.opens);
     put_counters(s, &f.refusals);

@@ -51,6 +51,10 @@ lawful a = leq a top
 unfoldable pub given : Label → Bool
 given a = not (eqb (a .level) unset)
 
+-- how high a label stands: how often a level can go up from the bottom to it
+unfoldable pub rank : Label → ℕ
+rank a = a .level
+
 infix 20 _⊑_
 -- b is at least a, as a fact
 abbrev pub _⊑_ : Label → Label → Type 0

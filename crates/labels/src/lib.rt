@@ -2,7 +2,7 @@
 ghost use Prim.Native.Nat.{min};
 ghost use mathlib.Core.Path.{_≡_};
 ghost use Rattle.labels.specs.Decisions.{ask, at};
-ghost use Rattle.labels.specs.Labels.{label, leq, same, join, meet, given};
+ghost use Rattle.labels.specs.Labels.{label, leq, same, join, meet, given, rank};
 
 // The byte of a level or a category that is unset.
 pub const UNSET: u8 = 255;
@@ -60,6 +60,13 @@ impl Label {
         ensures { λ r. ⌜ r ≡ given self ⌝ }
     {
         self.level != UNSET
+    }
+
+    // How high the label stands.
+    pub fn rank(self) -> u32
+        ensures { λ r. ⌜ r ≡ rank self ⌝ }
+    {
+        self.level as u32
     }
 }
 

@@ -2,8 +2,8 @@
 ghost use mathlib.Core.Bool.{false};
 ghost use mathlib.Core.Path.{_≡_};
 ghost use Rattle.rules.specs.Modules.{answers, classIn, fcAnswer, fcRule, ffAnswer, ffRule, levelled, macAnswer, macClass, macObject, macRule};
-ghost use Rattle.rules.specs.Modules.{macSignal, mayRead, maySet, mayWrite, moveBy, moved, readMarkRaised, setLevel, signalled, simAnswer, simRule};
-ghost use Rattle.rules.specs.Modules.{wanted};
+ghost use Rattle.rules.specs.Modules.{macSignal, mayRead, maySet, mayWrite, moveBy, moved, movedTo, movesTo, readMarkRaised, setLevel, signalled};
+ghost use Rattle.rules.specs.Modules.{simAnswer, simRule, wanted};
 ghost use Rattle.rules.specs.Requests.{needsObject};
 use answers::Answer;
 use answers::Answers;
@@ -123,29 +123,47 @@ fn move_by(k: Class, l: Label, r: Process) -> Process
     }
 }
 
-fn after_read(l: Label, mut r: Process) -> Process
+// How often the level of r has moved by itself once R, W or B make it l.
+fn moves_to(l: Label, r: Process) -> u8
+    ensures { λ x. ⌜ x ≡ movesTo l r ⌝ }
+{
+    if l.same(r.current) {
+        return r.moves;
+    }
+    if r.moves < state::MOST_MOVES {
+        return r.moves + 1;
+    }
+    r.moves
+}
+
+// The process after R, W or B, with this current level and these marks.
+fn moved_to(mut r: Process, current: Label, readmark: Label, writemark: Label) -> Process
+    ensures { λ x. ⌜ x ≡ movedTo r current readmark writemark ⌝ }
+{
+    let moves = moves_to(current, r);
+    r.moves = moves;
+    r.current = current;
+    r.readmark = readmark;
+    r.writemark = writemark;
+    r
+}
+
+fn after_read(l: Label, r: Process) -> Process
     ensures { λ x. ⌜ x ≡ moveBy Class.Reads l r ⌝ }
 {
-    r.current = r.current.join(l);
-    r.readmark = r.readmark.join(l);
-    r
+    moved_to(r, r.current.join(l), r.readmark.join(l), r.writemark)
 }
 
-fn after_write(l: Label, mut r: Process) -> Process
+fn after_write(l: Label, r: Process) -> Process
     ensures { λ x. ⌜ x ≡ moveBy Class.Writes l r ⌝ }
 {
-    r.current = l;
-    r.writemark = r.writemark.meet(l);
-    r
+    moved_to(r, l, r.readmark, r.writemark.meet(l))
 }
 
-fn after_both(l: Label, mut r: Process) -> Process
+fn after_both(l: Label, r: Process) -> Process
     ensures { λ x. ⌜ x ≡ moveBy Class.Both l r ⌝ }
 {
-    r.current = l;
-    r.readmark = l;
-    r.writemark = l;
-    r
+    moved_to(r, l, l, l)
 }
 
 // The process after set-level.

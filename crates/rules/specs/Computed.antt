@@ -7,7 +7,7 @@ use Rattle.answers.specs.Outcomes.{denies, answersFrom, outcomeOf, numberOf, an
 use Rattle.state.specs.State.{processIn, objectIn, userIn, opensOf, freshProcess, noProcess, blank, putProcess, putOpens, putUser, putObject, addUser}
 use Rattle.state.specs.State.{addObject, dropObject, putRefusals, counted, openBy, refusalsOf}
 use Rattle.opens.specs.Opens.{markPlace, reading, writing, addModes}
-use Rattle.labels.specs.Labels.{leq, same, join, meet, bottom, top, given}
+use Rattle.labels.specs.Labels.{leq, same, join, meet, bottom, top, given, rank}
 use Rattle.answers.specs.Answers.{code, grant, passes}
 use Rattle.rules.specs.Requests.{actionOf, files, directories, channels, controlData, listOf, classAmong, classOf, openChange}
 use Rattle.rules.specs.FileFlags.{has, hasParent, inherits, effectiveIn, forbidding, sourceIn}
@@ -20,13 +20,14 @@ use Rattle.rules.specs.Modules.{answers, moveBy, setLevel, moved, levell
 use Rattle.rules.specs.Questions.{inRange, isRunning, isFree, openFor, roomFor, numberBy}
 use Rattle.rules.specs.Effects.{firstFlags, firstParent, effectFrom}
 use Rattle.rules.specs.Calls.{accepted, objectGiven, query, afterRefusal, after}
-use Rattle.rules.specs.Histories.{run, outcomes, trustedLogin, trustedLogins, history}
+use Rattle.rules.specs.Histories.{run, outcomes, past, isStart, isCloning, ownerAfter, ofClass, isMove, movesOf, trustedLogin, trustedLogins}
+use Rattle.rules.specs.Histories.{history}
 use Rattle.rules.specs.Matter.{start, processGains, objectGains, assign, enter, carry, carryBy, afterEntry, account}
 use Rattle.rules.specs.Lines.{decimalIn, levelText, callLine, callsOf, callLines, setupLine, shortLine, printed}
 
 -- Whoever unfolds one of these unfolds the definitions of its section.
 unfoldable pub labelsComputed : ℕ
-unfolding _and_ _or_ ask leq same join meet bottom top given
+unfolding _and_ _or_ ask leq same join meet bottom top given rank
 labelsComputed = 0
 
 unfoldable pub outcomesComputed : ℕ
@@ -74,6 +75,10 @@ unfoldable pub callsComputed : ℕ
 unfolding openBy firstFlags firstParent effectFrom accepted objectGiven query afterRefusal after run outcomes trustedLogin trustedLogins
 callsComputed = 0
 
+unfoldable pub historiesComputed : ℕ
+unfolding past isStart isCloning ownerAfter ofClass isMove movesOf
+historiesComputed = 0
+
 unfoldable pub matterComputed : ℕ
 unfolding start processGains objectGains assign enter carry carryBy afterEntry account history
 matterComputed = 0
@@ -88,7 +93,7 @@ unfolding labelsComputed outcomesComputed requestsComputed flagsComputed modules
 decisionsComputed = 0
 
 unfoldable pub everything : ℕ
-unfolding decisionsComputed stateComputed changesComputed setupComputed writingComputed matterComputed linesComputed
+unfolding decisionsComputed stateComputed changesComputed setupComputed writingComputed historiesComputed matterComputed linesComputed
 everything = 0
 
 -- the combined answer, and the number, of each call of a list

@@ -1,13 +1,15 @@
--- Lists of calls: the facility after one, its outcomes, its steps, and of each call whether it was accepted.
+-- Lists of calls: the facility after one, its outcomes, its steps, the owner and the moves of a process by them, and of each call whether it was accepted.
 use mathlib.Core.List.{List, [], _∷_}
-use Prim.Native.Nat.{ℕ}
-use mathlib.Core.Bool.{Bool, false, cond}
+use Prim.Native.Nat.{ℕ, _+_}
+use mathlib.Core.Bool.{Bool, false, not, cond}
 use lib.Dec.{eqb}
 use Rattle.rules.specs.Types.{Call, Facility, Outcome}
 use Rattle.rules.specs.Calls.{after, query, accepted}
 use Rattle.labels.specs.Decisions.{_and_, _or_}
-use Rattle.state.specs.State.{trustedUser}
-use Rattle.rules.specs.Requests.{actionOf, isLogin, isClone}
+use Rattle.labels.specs.Labels.{Label, same, rank}
+use Rattle.state.specs.State.{trustedUser, processOf}
+use Rattle.rules.specs.Requests.{actionOf, isLogin, isClone, needsObject, observes, alters}
+use Rattle.rules.specs.Modules.{viewOf, classIn}
 
 -- the facility after a list of calls: each gets the facility that the call before it returned
 unfoldable pub run : Facility → List Call → Facility
@@ -41,6 +43,30 @@ unfoldable pub ownerAfter : List Step → ℕ → ℕ
 ownerAfter [] p = 0
 ownerAfter (x ∷ xs) p =
     cond (isStart x p) (x .call .extra) (cond (isCloning x p) (ownerAfter xs (x .call .process)) (ownerAfter xs p))
+
+-- the current level of process p, and whether a call is of class R, W or B
+abbrev pub currentOf : Facility → ℕ → Label
+currentOf f p = (processOf f p) .current
+
+unfoldable pub ofClass : Facility → Call → Bool
+ofClass f c =
+    needsObject (actionOf (c .request)) (c .extra) and (observes (classIn (viewOf f c) c) or alters (classIn (viewOf f c) c))
+
+-- whether a step is a move of process p: an accepted R, W or B of p's own that changed its current level
+unfoldable pub isMove : Step → ℕ → Bool
+isMove x p =
+    accepted (x .before) (x .call) and eqb (x .call .process) p and ofClass (x .before) (x .call)
+    and not (same (currentOf (after (x .before) (x .call)) p) (currentOf (x .before) p))
+
+-- the moves of process p in a history: back to its login, and of a clone those of its parent up to the cloning too
+unfoldable pub movesOf : List Step → ℕ → ℕ
+movesOf [] p = 0
+movesOf (x ∷ xs) p =
+    cond (isStart x p) 0 (cond (isCloning x p) (movesOf xs (x .call .process)) (cond (isMove x p) 1 0 + movesOf xs p))
+
+-- how many moves there are at most where the owner has this clearance: the clearance plus 1
+abbrev pub movesBound : Label → ℕ
+movesBound clearance = rank clearance + 1
 
 -- a trusted login is an accepted login of a trusted user; whether a list has one
 unfoldable pub trustedLogin : Facility → Call → Bool

@@ -7,7 +7,7 @@ use lib.Dec.{eqb}
 use Rattle.rules.specs.Types.{Answer, NotCared, Granted, NotGranted, Undefined, Answers, Call, Process, User, Object, Facility}
 use Rattle.labels.specs.Decisions.{_and_, _or_, on}
 use Rattle.answers.specs.Outcomes.{answersFrom}
-use Rattle.state.specs.State.{switchesOf, objectsIn, processOf, objectOf, userOf, isAutomatic, opensOf, withLevels}
+use Rattle.state.specs.State.{switchesOf, objectsIn, processOf, objectOf, userOf, isAutomatic, opensOf, withLevels, mostMoves, oneMore}
 use Rattle.labels.specs.Labels.{unset, Label, label, leq, same, join, meet, given}
 use Rattle.answers.specs.Answers.{grant}
 use Rattle.rules.specs.FileFlags.{effective, forbids}
@@ -124,18 +124,26 @@ ffAnswer k v c =
 unfoldable pub answers : Action → View → Call → Answers
 answers k v c = answersFrom (macAnswer k v c) (fcAnswer k v c) (simAnswer k v c) (ffAnswer k v c)
 
+-- how often the level of r has moved by itself once R, W or B make it l: once more where that is a change
+abbrev pub movesTo : Label → Process → ℕ
+movesTo l r = cond (same l (r .current)) (r .moves) (oneMore mostMoves (r .moves))
+
+-- r after R, W or B, with this current level and these marks
+abbrev pub movedTo : Process → Label → Label → Label → Process
+movedTo r current readmark writemark = withLevels r current readmark writemark (r .automatic) (movesTo current r)
+
 -- MAC's move of a process by class, on an object with label l.
 -- R: current and read mark become at least L. W: current becomes L, write mark at most L. B: as W, and both marks become L
 unfoldable pub moveBy : Class → Label → Process → Process
 moveBy Absent l r = r
-moveBy Reads l r = withLevels r (join (r .current) l) (join (r .readmark) l) (r .writemark) (r .automatic)
-moveBy Writes l r = withLevels r l (r .readmark) (meet (r .writemark) l) (r .automatic)
-moveBy Both l r = withLevels r l l l (r .automatic)
+moveBy Reads l r = movedTo r (join (r .current) l) (join (r .readmark) l) (r .writemark)
+moveBy Writes l r = movedTo r l (r .readmark) (meet (r .writemark) l)
+moveBy Both l r = movedTo r l l l
 moveBy NoCondition l r = r
 
--- set-level: current becomes e, automatic goes off for good
+-- set-level: current becomes e, automatic goes off for good; no move by itself, so none is counted
 unfoldable pub setLevel : Label → Process → Process
-setLevel l r = withLevels r l (r .readmark) (r .writemark) 0
+setLevel l r = withLevels r l (r .readmark) (r .writemark) 0 (r .moves)
 
 -- the caller after an accepted call on an object: with MAC off, or a trusted owner, marks and current level are untouched
 unfoldable pub moved : View → Call → Process
@@ -148,7 +156,7 @@ levelled v c = cond (on (v .switches .mac)) (setLevel (wanted c) (v .caller)) (v
 
 -- r with its read mark at its current level
 abbrev pub readMarkRaised : Process → Process
-readMarkRaised r = withLevels r (r .current) (r .current) (r .writemark) (r .automatic)
+readMarkRaised r = withLevels r (r .current) (r .current) (r .writemark) (r .automatic) (r .moves)
 
 -- the receiver after an accepted signal: with MAC on, and its owner not trusted, its read mark becomes its current level; else it is as it was
 unfoldable pub signalled : View → Process

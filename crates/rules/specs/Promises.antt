@@ -1,4 +1,4 @@
--- Demands 1 and 2, and Tickets 1, 2 and 4, as statements over the definitions. Each is proved in the module of Proofs/ that its comment names.
+-- Demands 1 and 2, and Tickets 1, 2, 4 and 5, as statements over the definitions. Each is proved in the module of Proofs/ that its comment names.
 use Rattle.answers.specs.declared.Outcome.the-variants.{Refused}
 use Prim.Native.Nat.{ℕ, zero, suc, _+_, _-_, _≤_, _<_, min}
 use mathlib.Core.Path.{_≡_}
@@ -13,9 +13,9 @@ use Rattle.labels.specs.Decisions.{_and_, _or_, asked, at, on}
 use Rattle.answers.specs.Outcomes.{denies, numberOf, objectNumberOf, noObject}
 use Rattle.opens.specs.Opens.{mostObjects}
 use Rattle.state.specs.State.{Objects, objectsIn, objectOf, live, mostUsers, mostRefusals, switchesOf, processOf, refusalsOf, putRefusals, counted}
-use Rattle.state.specs.State.{trustedUser, usersIn, processesFrom, with}
+use Rattle.state.specs.State.{trustedUser, clearanceOf, runs, usersIn, processesFrom, with}
 use Rattle.rules.specs.Calls.{ownerIn, accepted, query, after, enforce}
-use Rattle.rules.specs.Histories.{run, outcomes, Step, past, ownerAfter}
+use Rattle.rules.specs.Histories.{run, outcomes, Step, past, ownerAfter, movesOf, movesBound}
 use Rattle.rules.specs.Requests.{Action, Class, lastRequest, actionOf, isAbsent, isNoCondition, isLogin, isCreate, inDirectory, needsObject}
 use Rattle.rules.specs.Kinds.{SetupRecord, fits, room, allowed, parentFits, recordNumber}
 use Rattle.rules.specs.Setup.{fresh, acceptedSetup, usersOf, liveObjects, newNumber, writtenObjects, setupBytes}
@@ -161,7 +161,7 @@ receiverOwner f c = (processOf f (c .target)) .owner
 abbrev pub withReadMarkRaised : Facility → ℕ → Facility
 withReadMarkRaised f p =
     with f (f .users) (usersIn f) (f .entered) (objectsIn f)
-    (processesFrom (f .runnings) (f .owners) (f .currents) (set (f .readmarks) p (at (f .currents) p)) (f .writemarks) (f .automatics))
+    (processesFrom (f .runnings) (f .owners) (f .currents) (set (f .readmarks) p (at (f .currents) p)) (f .writemarks) (f .automatics) (f .moves))
     (f .opens) (f .refusals)
 
 -- the account after a call that is enforced on f
@@ -185,3 +185,15 @@ pub record Signals : Type 0 where
   pub others : (a : Account) (f : Facility) (c : Call) → AcceptedSignal f c → (p : ℕ) → p ≢ c .target
       → accountBy a f c .processes p ≡ a .processes p
   pub objects : (a : Account) (f : Facility) (c : Call) → AcceptedSignal f c → accountBy a f c .objects ≡ a .objects
+
+-- Ticket 5, how often a level moves (Proofs/MovesCounted), of each process that runs after a list from a fresh facility.
+pub record Moves : Type 0 where
+  -- the number that it carries is that of the moves in its history
+  pub counted : (s : List ℕ) (cs : List Call) (p : ℕ) → runs (run (fresh s) cs) p ≡ true
+      → (processOf (run (fresh s) cs) p) .moves ≡ movesOf (past (fresh s) cs []) p
+  -- these are at most one more than the clearance, by the set-up, of the user who owns it, by the history
+  pub bounded : (s : List ℕ) (cs : List Call) (p : ℕ) → runs (run (fresh s) cs) p ≡ true
+      → movesOf (past (fresh s) cs []) p ≤ movesBound (clearanceOf (fresh s) (ownerAfter (past (fresh s) cs []) p))
+  -- and so is the number that it carries
+  pub most : (s : List ℕ) (cs : List Call) (p : ℕ) → runs (run (fresh s) cs) p ≡ true
+      → (processOf (run (fresh s) cs) p) .moves ≤ movesBound (clearanceOf (fresh s) (ownerAfter (past (fresh s) cs []) p))

@@ -1,6 +1,7 @@
 -- The proofs of the theorems.
 pub mod Passed
 pub mod Sound
+pub mod Processes
 pub mod Invariant
 pub mod Opens
 pub mod Moves
@@ -25,6 +26,8 @@ pub mod ExactlyWhen
 pub mod Signals
 pub mod Refusals
 pub mod Owners
+pub mod Settled
+pub mod MovesCounted
 pub mod Counters
 pub mod ObjectNumbers
 pub mod RoundTrips

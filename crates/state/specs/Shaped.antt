@@ -26,6 +26,7 @@ pub record ProcessesShaped (x : Processes) : Type 0 where
   pub readmarks : length (x .readmarks) ≡ mostProcesses
   pub writemarks : length (x .writemarks) ≡ mostProcesses
   pub automatics : length (x .automatics) ≡ mostProcesses
+  pub moves : length (x .moves) ≡ mostProcesses
 
 pub record Shaped (f : Facility) : Type 0 where
   pub users : UsersShaped (usersIn f)

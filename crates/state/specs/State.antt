@@ -27,6 +27,10 @@ mostUsers = 16
 abbrev pub mostRefusals : ℕ
 mostRefusals = 4294967295
 
+-- where the counter of a process's moves stops
+abbrev pub mostMoves : ℕ
+mostMoves = 255
+
 -- The parts of a facility: its users, objects and processes.
 pub record Users : Type 0 where
   pub clearances : List ℕ
@@ -49,6 +53,7 @@ pub record Processes : Type 0 where
   pub readmarks : List ℕ
   pub writemarks : List ℕ
   pub automatics : List ℕ
+  pub moves : List ℕ
 
 abbrev pub usersFrom : List ℕ → List ℕ → List ℕ → Users
 usersFrom a b c = record { clearances = a; roles = b; trusts = c }
@@ -56,8 +61,8 @@ usersFrom a b c = record { clearances = a; roles = b; trusts = c }
 abbrev pub objectsFrom : List ℕ → List ℕ → List ℕ → List ℕ → List ℕ → List ℕ → List ℕ → Objects
 objectsFrom a b c d e f g = record { lives = a; kinds = b; levels = c; categories = d; datatypes = e; flags = f; parents = g }
 
-abbrev pub processesFrom : List ℕ → List ℕ → List ℕ → List ℕ → List ℕ → List ℕ → Processes
-processesFrom a b c d e f = record { runnings = a; owners = b; currents = c; readmarks = d; writemarks = e; automatics = f }
+abbrev pub processesFrom : List ℕ → List ℕ → List ℕ → List ℕ → List ℕ → List ℕ → List ℕ → Processes
+processesFrom a b c d e f g = record { runnings = a; owners = b; currents = c; readmarks = d; writemarks = e; automatics = f; moves = g }
 
 abbrev pub usersIn : Facility → Users
 usersIn f = usersFrom (f .clearances) (f .roles) (f .trusts)
@@ -66,7 +71,7 @@ abbrev pub objectsIn : Facility → Objects
 objectsIn f = objectsFrom (f .lives) (f .kinds) (f .levels) (f .categories) (f .datatypes) (f .flags) (f .parents)
 
 abbrev pub processesIn : Facility → Processes
-processesIn f = processesFrom (f .runnings) (f .owners) (f .currents) (f .readmarks) (f .writemarks) (f .automatics)
+processesIn f = processesFrom (f .runnings) (f .owners) (f .currents) (f .readmarks) (f .writemarks) (f .automatics) (f .moves)
 
 -- What is read off a facility: process p, object t and user u, out of their arrays.
 unfoldable pub processIn : Processes → ℕ → Process
@@ -78,6 +83,7 @@ processIn x p =
       readmark = label (at (x .readmarks) p);
       writemark = label (at (x .writemarks) p);
       automatic = at (x .automatics) p;
+      moves = at (x .moves) p;
     }
 
 unfoldable pub objectIn : Objects → ℕ → Object
@@ -173,6 +179,7 @@ with f users us entered os ps opens refusals =
       ff = f .ff;
       flags = os .flags;
       parents = os .parents;
+      moves = ps .moves;
     }
 
 -- The ways in which a facility changes: a process, the opens, a new user, a new object, a dropped object, the counters.
@@ -185,7 +192,8 @@ putProcess f p r =
     (set (f .currents) p (r .current .level))
     (set (f .readmarks) p (r .readmark .level))
     (set (f .writemarks) p (r .writemark .level))
-    (set (f .automatics) p (r .automatic)))
+    (set (f .automatics) p (r .automatic))
+    (set (f .moves) p (r .moves)))
     (f .opens) (f .refusals)
 
 unfoldable pub putOpens : Facility → List ℕ → Facility
@@ -236,21 +244,22 @@ dropObject f t =
 unfoldable pub putRefusals : Facility → List ℕ → Facility
 putRefusals f l = with f (f .users) (usersIn f) (f .entered) (objectsIn f) (processesIn f) (f .opens) l
 
--- one more refusal of user u; at its stop the user's counter stays
-abbrev pub oneMore : ℕ → ℕ
-oneMore n = cond (ltb n mostRefusals) (n + 1) n
+-- one more of what is counted; at its stop `most` a counter stays
+abbrev pub oneMore : ℕ → ℕ → ℕ
+oneMore most n = cond (ltb n most) (n + 1) n
 
+-- one more refusal of user u
 unfoldable pub counted : Facility → ℕ → Facility
-counted f u = putRefusals f (set (f .refusals) u (oneMore (refusalsOf f u)))
+counted f u = putRefusals f (set (f .refusals) u (oneMore mostRefusals (refusalsOf f u)))
 
--- login: current 0, read mark 0, write mark 15, automatic on
+-- login: current 0, read mark 0, write mark 15, automatic on, no move yet
 unfoldable pub freshProcess : ℕ → Process
 freshProcess u =
-    record { running = 1; owner = u; current = bottom; readmark = bottom; writemark = top; automatic = 1 }
+    record { running = 1; owner = u; current = bottom; readmark = bottom; writemark = top; automatic = 1; moves = 0 }
 
--- r with this current level, read mark and write mark, and automatic so; all else stays
-abbrev pub withLevels : Process → Label → Label → Label → ℕ → Process
-withLevels r current readmark writemark automatic =
+-- r with this current level, read mark and write mark, automatic so, and so many moves; all else stays
+abbrev pub withLevels : Process → Label → Label → Label → ℕ → ℕ → Process
+withLevels r current readmark writemark automatic moves =
     record {
       running = r .running;
       owner = r .owner;
@@ -258,12 +267,13 @@ withLevels r current readmark writemark automatic =
       readmark = readmark;
       writemark = writemark;
       automatic = automatic;
+      moves = moves;
     }
 
 -- the process of a number that does not run: nothing is kept of it
 unfoldable pub noProcess : Process
 noProcess =
-    record { running = 0; owner = 0; current = bottom; readmark = bottom; writemark = bottom; automatic = 0 }
+    record { running = 0; owner = 0; current = bottom; readmark = bottom; writemark = bottom; automatic = 0; moves = 0 }
 
 -- What requests make of a facility: process t becomes a clone of p; the marks of p on t change; p opens t in the modes m; p closes t; t is
 -- deleted; p terminates.
@@ -331,4 +341,5 @@ blank s =
       ff = s .ff;
       flags = replicate mostObjects 0;
       parents = replicate mostObjects 0;
+      moves = replicate mostProcesses 0;
     }

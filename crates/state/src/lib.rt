@@ -22,6 +22,9 @@ pub const PAIRS: usize = opens::PAIRS as usize;
 // Where each counter of refusals stops.
 pub const MOST_REFUSALS: u32 = 4294967295;
 
+// Where the counter of a process's moves stops.
+pub const MOST_MOVES: u8 = 255;
+
 // A call: four bytes.
 pub struct Call {
     pub request: u8,
@@ -39,6 +42,8 @@ pub struct Process {
     pub readmark: Label,
     pub writemark: Label,
     pub automatic: u8,
+    // How often its level moved by itself: by R, W or B, not by set-level.
+    pub moves: u8,
 }
 
 // A user: the clearance is fixed by the set-up.
@@ -139,10 +144,12 @@ pub struct Facility {
     pub opens: [u8; PAIRS],
     // Calls refused with 12 or 13, by user: the owner of the calling process. Each up to 4,294,967,295.
     pub refusals: [u32; USERS],
-    // What came later stands behind, so that no earlier field moves: the fourth switch, and objects' flags and parents by object number.
+    // What came later stands behind, so that no earlier field moves: the fourth switch, objects' flags and parents by object number, and how
+    // often the level of each process moved by itself.
     pub ff: u8,
     pub flags: [u8; OBJECTS],
     pub parents: [u8; OBJECTS],
+    pub moves: [u8; PROCESSES],
 }
 
 impl Process {
@@ -160,6 +167,7 @@ impl Process {
             readmark: Label { level: 0 },
             writemark: Label { level: Self::TOP },
             automatic: 1,
+            moves: 0,
         }
     }
 
@@ -174,6 +182,7 @@ impl Process {
             readmark: Label { level: 0 },
             writemark: Label { level: 0 },
             automatic: 0,
+            moves: 0,
         }
     }
 }
@@ -193,10 +202,11 @@ pub fn process_at<'a>(
     readmarks: &'a [u8],
     writemarks: &'a [u8],
     automatics: &'a [u8],
+    moves: &'a [u8],
     p: usize,
 ) -> Process
     ensures { λ r. ⌜ r ≡ processIn (processesFrom (now (runnings .entry)) (now (owners .entry)) (now (currents .entry)) (now (readmarks .entry))
-        (now (writemarks .entry)) (now (automatics .entry))) p ⌝ }
+        (now (writemarks .entry)) (now (automatics .entry)) (now (moves .entry))) p ⌝ }
 {
     let current = label_at(currents, p);
     let readmark = label_at(readmarks, p);
@@ -208,6 +218,7 @@ pub fn process_at<'a>(
         readmark,
         writemark,
         automatic: labels::at(automatics, p),
+        moves: labels::at(moves, p),
     }
 }
 
@@ -310,6 +321,7 @@ impl Facility {
             ff: s.ff,
             flags: [0; OBJECTS],
             parents: [0; OBJECTS],
+            moves: [0; PROCESSES],
         }
     }
 
@@ -326,6 +338,7 @@ impl Facility {
             self.readmarks[i] = r.readmark.level;
             self.writemarks[i] = r.writemark.level;
             self.automatics[i] = r.automatic;
+            self.moves[i] = r.moves;
             if k < PAIRS {
                 let marks = labels::at(&self.opens, k);
                 self.opens[k] = opens::marks_after(change, marks);
@@ -367,6 +380,7 @@ impl Facility {
             &self.readmarks,
             &self.writemarks,
             &self.automatics,
+            &self.moves,
             i,
         )
     }

@@ -217,7 +217,8 @@ fn show_state(f: Facility, agreed: u64) {
     show(f.entered as u64, b' ');
     let mut out = io::buffer();
     show_written(f, &mut out);
-    show(weighed_flags(&f.lives, &f.flags, &f.parents), b'\n');
+    show(weighed_flags(&f.lives, &f.flags, &f.parents), b' ');
+    show(weighed(&f.moves, state::PROCESSES), b'\n');
 }
 
 // How many of the object numbers below n object x holds the matter of.

@@ -23,17 +23,19 @@ use Rattle.rules.specs.Requests.{actionOf, inDirectory, isSendSignal}
 use Rattle.rules.specs.FileFlags.{readOnly, noExecute, noDelete, searchOnly, addInherited, has, forbidding, flagSource}
 use Rattle.rules.specs.Modules.{viewOf, classIn}
 use Rattle.rules.specs.Calls.{query, after, ownerIn}
+use Rattle.rules.specs.Histories.{movesBound}
 use Rattle.rules.specs.Lines.{decimal, lineFeed}
 use Rattle.rules.specs.Text.{ascii}
 use Rattle.words.specs.Words.{flagWord}
 use Rattle.words.specs.Patterns.{filled, filledFrom, said}
 
--- a process: its owner with the clearance, its current level and its marks
+-- a process: its owner with the clearance, its current level and its marks, and how often its level moved by itself, of at most how many times
 abbrev pub processText : Process → User → List ℕ
 processText r u =
     cond (on (r .running))
-    (filled (ascii "user #, clearance #, current #, marks # to #")
-    (r .owner ∷ u .clearance .level ∷ r .current .level ∷ r .readmark .level ∷ r .writemark .level ∷ []))
+    (filled (ascii "user #, clearance #, current #, marks # to #, moved # times of at most ")
+    (r .owner ∷ u .clearance .level ∷ r .current .level ∷ r .readmark .level ∷ r .writemark .level ∷ r .moves ∷ [])
+    ++ decimal (movesBound (u .clearance)))
     (ascii "not running")
 
 -- a flag where it is among v, and all that are

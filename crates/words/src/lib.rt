@@ -247,13 +247,15 @@ fn put_process(out: &mut [u8; BUFFER], place: usize, r: Process, u: User) -> usi
             r.current.level,
             r.readmark.level,
             r.writemark.level,
+            r.moves,
         ];
-        return put_filled(
+        let p = put_filled(
             out,
             place,
-            b"user #, clearance #, current #, marks # to #",
+            b"user #, clearance #, current #, marks # to #, moved # times of at most ",
             &numbers,
         );
+        return text::put_decimal(out, p, (u.clearance.rank() as u64) + 1);
     }
     text::put_text(out, place, b"not running")
 }

@@ -18,8 +18,10 @@ returns c =
     let object = opens .before .before .before .before in
     let owner = object .before .before .before .before .before .before .before .before .before .before .before .before .before .before .before .before in
     let receiver = owner .before .before .before .before .before .before .before .before .before in
-    let caller = receiver .before .before .before .before .before .before .before .before .before .before .before .before .before .before in
-    let marks = caller .before .before .before .before .before .before .before .before .before .before .before .before .before .before .before .before in
+    let caller =
+    receiver .before .before .before .before .before .before .before .before .before .before .before .before .before .before .before .before in
+    let marks =
+    caller .before .before .before .before .before .before .before .before .before .before .before .before .before .before .before .before .before .before in
     let f = marks .before .args .t1 in
     λ i. record {
       switches = switchesOf f;

@@ -8,7 +8,8 @@ use Rattle.state.specs.State.{processIn}
 returns : tie.Need-returns
 unfolding facilityAt processIn
 returns c =
-    let c6 = c in
+    let c7 = c in
+    let c6 = c7 .before in
     let c5 = c6 .before in
     let c4 = c5 .before in
     let c3 = c4 .before in
@@ -21,10 +22,11 @@ returns c =
       readmark = c4 .label-in2 .ensures j;
       writemark = c5 .label-in3 .ensures j;
       automatic = c6 .byte-in3 .ensures j;
+      moves = c7 .byte-in4 .ensures j;
     }
 
 pub process-in-spec : {M : Type 1} → statement M
 process-in-spec =
     tie.close
     (tie.spec (λ c κs. search needs) (λ c κs. search needs) (λ c κs. search needs) (λ c κs. search needs) (λ c κs. search needs)
-    (λ c κs. search needs) returns)
+    (λ c κs. search needs) (λ c κs. search needs) returns)

@@ -2,14 +2,15 @@
 use mathlib.Core.Path.{refl}
 use borrow.Author.Needs.{needs}
 use Rattle.in_place.proofs.Changes.{process-stored}
-use Rattle.in_place.specs.Layout.{fieldOf, theRunnings, theOwners, theCurrents, theReadmarks, theWritemarks, theAutomatics}
+use Rattle.in_place.specs.Layout.{fieldOf, theRunnings, theOwners, theCurrents, theReadmarks, theWritemarks, theAutomatics, theMoves}
 use Rattle.in_place.proofs.Stores.{stored, padding-fields}
 use Rattle.in_place.proofs.put_process.Statement.{statement}
 use Rattle.in_place.proofs.put_process.Tie as tie
 
 returns : tie.Need-returns
 returns c =
-    let c6 = c .before .before in
+    let c7 = c .before .before in
+    let c6 = c7 .before .before .before .before in
     let c5 = c6 .before .before .before .before in
     let c4 = c5 .before .before .before .before in
     let c3 = c4 .before .before .before .before in
@@ -23,10 +24,11 @@ returns c =
     let f = stored _ _ _ theReadmarks (a .p) (r .readmark .level) f (c4 .put-in4 .ensures) in
     let f = stored _ _ _ theWritemarks (a .p) (r .writemark .level) f (c5 .put-in5 .ensures) in
     let f = stored _ _ _ theAutomatics (a .p) (r .automatic) f (c6 .put-in6 .ensures) in
+    let f = stored _ _ _ theMoves (a .p) (r .moves) f (c7 .put-in7 .ensures) in
     (process-stored (a .s .now) _ (a .p) r f, padding-fields (a .s .now) _ _ f refl)
 
 pub put-process-spec : {M : Type 1} → statement M
 put-process-spec =
     tie.close
     (tie.spec (λ c κs. search needs) (λ c κs. search needs) (λ c κs. search needs) (λ c κs. search needs) (λ c κs. search needs) (λ c κs. search needs)
-    (λ c. search needs) returns)
+    (λ c κs. search needs) (λ c. search needs) returns)

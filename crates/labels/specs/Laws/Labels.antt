@@ -1,11 +1,12 @@
 -- The laws of labels. Everything else goes by these, and looks into no label.
 use Prim.Native.Nat.{_≤_, _<_, ℕ}
+use mathlib.Core.Logic.{_≢_}
 use mathlib.Core.Path.{_≡_}
 use mathlib.Core.Bool.{true, false}
 use lib.Dec.{leb, eqb}
 use native.Mathlib.Omega.{arith}
-use borrow.Author.Tests.{le-leb, leb-true, eqb-true, leb-false, eq-eqb, ne-eqb}
-use Rattle.labels.specs.Labels.{unset, Label, leq, _⊑_, same, join, meet, bottom, lawful, top, given, label}
+use borrow.Author.Tests.{le-leb, leb-true, eqb-true, eqb-false, leb-false, eq-eqb, ne-eqb}
+use Rattle.labels.specs.Labels.{unset, Label, leq, _⊑_, same, join, meet, bottom, lawful, top, given, label, rank}
 use Rattle.labels.specs.Laws.Decisions.{by-test}
 
 -- The laws.
@@ -87,6 +88,22 @@ unfolding given leq top
 lawful-given a h =
     let p : a .level ≤ 15 = leb-true _ _ h in
     rw (ne-eqb (a .level) unset (λ e. absurd (omega arith)))
+
+-- the rank of a higher label is higher, and that of a lawful one is at most 15
+pub rank-up : (a b : Label) → a ⊑ b → rank a ≤ rank b
+unfolding rank leq
+rank-up a b h = leb-true _ _ h
+
+pub rank-over : (a b : Label) → a ⊑ b → same a b ≡ false → rank a < rank b
+unfolding rank leq same
+rank-over a b h n =
+    let p : a .level ≤ b .level = leb-true _ _ h in
+    let q : a .level ≢ b .level = eqb-false _ _ n in
+    omega arith
+
+pub rank-lawful : (a : Label) → lawful a ≡ true → rank a ≤ 15
+unfolding rank leq top
+rank-lawful a h = leb-true _ _ h
 
 -- the level bytes that are allowed in a set-up
 pub level-lawful : (n : ℕ) → leb n 15 ≡ true → lawful (label n) ≡ true

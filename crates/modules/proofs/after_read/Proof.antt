@@ -6,7 +6,7 @@ use Rattle.rules.specs.Modules.{moveBy}
 
 returns : tie.Need-returns
 unfolding moveBy
-returns c = rw (c .join2 .ensures, c .before .join .ensures)
+returns c = rw (c .moved-to .ensures, c .before .join2 .ensures, c .before .before .join .ensures)
 
 pub after-read-spec : {M : Type 1} → statement M
-after-read-spec = tie.close (tie.spec (λ c κs. search needs) (λ c κs. search needs) returns)
+after-read-spec = tie.close (tie.spec (λ c κs. search needs) (λ c κs. search needs) (λ c κs. search needs) returns)

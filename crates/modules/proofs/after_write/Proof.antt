@@ -6,7 +6,7 @@ use Rattle.rules.specs.Modules.{moveBy}
 
 returns : tie.Need-returns
 unfolding moveBy
-returns c = rw (c .meet .ensures)
+returns c = rw (c .moved-to .ensures, c .before .meet .ensures)
 
 pub after-write-spec : {M : Type 1} → statement M
-after-write-spec = tie.close (tie.spec (λ c κs. search needs) returns)
+after-write-spec = tie.close (tie.spec (λ c κs. search needs) (λ c κs. search needs) returns)

@@ -67,13 +67,13 @@ abbrev one : Facility
 one =
     opened (opened (putProcess (putObject (putObject (putUser (blank (record { mac = 1; fc = 0; sim = 0; ff = 0 }))
     (record { clearance = label 9; role = 0; trusted = 0 })) file) file) 0
-    (record { running = 1; owner = 0; current = label 3; readmark = label 2; writemark = label 7; automatic = 0 })) 0 0 3) 0 1 1
+    (record { running = 1; owner = 0; current = label 3; readmark = label 2; writemark = label 7; automatic = 0; moves = 0 })) 0 0 3) 0 1 1
 
 -- and process 1 of user 0 has 0 open for reading and 1 for writing
 abbrev two : Facility
 two =
     opened (opened (putProcess one 1
-    (record { running = 1; owner = 0; current = label 3; readmark = label 1; writemark = label 8; automatic = 1 })) 1 0 1) 1 1 2
+    (record { running = 1; owner = 0; current = label 3; readmark = label 1; writemark = label 8; automatic = 1; moves = 0 })) 1 0 1) 1 1 2
 
 -- of a facility: processes 0 and 1, and objects 0 and 1
 abbrev twoOfEach : Facility → List (List ℕ)

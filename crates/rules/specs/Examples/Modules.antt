@@ -55,9 +55,9 @@ pub all-combined :
 unfolding everything
 all-combined = refl
 
--- a process with these levels and flag, an object of this level, and an owner
-abbrev process : ℕ → ℕ → ℕ → ℕ → Process
-process current readmark writemark automatic =
+-- a process after so many moves with these levels and flag, before any and after one; an object of this level, and an owner
+abbrev processAfter : ℕ → ℕ → ℕ → ℕ → ℕ → Process
+processAfter moves current readmark writemark automatic =
     record {
       running = 1;
       owner = 3;
@@ -65,7 +65,14 @@ process current readmark writemark automatic =
       readmark = label readmark;
       writemark = label writemark;
       automatic = automatic;
+      moves = moves;
     }
+
+abbrev process : ℕ → ℕ → ℕ → ℕ → Process
+process current readmark writemark automatic = processAfter 0 current readmark writemark automatic
+
+abbrev movedOnce : ℕ → ℕ → ℕ → ℕ → Process
+movedOnce current readmark writemark automatic = processAfter 1 current readmark writemark automatic
 
 abbrev levelled : ℕ → Object
 levelled l = record { live = 1; kind = 0; label = label l; category = 0; datatype = 0; flags = 0; parent = 0 }
@@ -159,26 +166,33 @@ pub signals :
 unfolding everything
 signals = refl
 
--- "R .. Effect: current and read mark become at least L"; automatic and owner stay
+-- "R .. Effect: current and read mark become at least L"; automatic and owner stay; one move more exactly where current changes
 pub moves :
     moveBy Reads (label 3) (process 2 1 9 1) ∷ moveBy Reads (label 1) (process 3 0 9 1) ∷ moveBy Reads (label 1) (process 3 2 9 0)
     -- "W .. Effect: current becomes L, write mark at most L"
-    ∷ moveBy Writes (label 3) (process 2 1 9 1) ∷ moveBy Writes (label 3) (process 5 1 2 0)
+    ∷ moveBy Writes (label 3) (process 2 1 9 1) ∷ moveBy Writes (label 3) (process 5 1 2 0) ∷ moveBy Writes (label 3) (process 3 1 9 1)
     -- "B: as W; both marks become L"
-    ∷ moveBy Both (label 3) (process 2 1 9 1) ∷ moveBy Both (label 3) (process 5 4 2 0)
+    ∷ moveBy Both (label 3) (process 2 1 9 1) ∷ moveBy Both (label 3) (process 5 4 2 0) ∷ moveBy Both (label 3) (process 3 1 9 1)
     -- N: nothing
     ∷ moveBy NoCondition (label 3) (process 2 1 9 1) ∷ moveBy Absent (label 3) (process 2 1 9 1)
-    -- "current becomes e, automatic goes off for good"; the marks stay
+    -- "current becomes e, automatic goes off for good"; the marks stay, and it is no move
     ∷ setLevel (label 3) (process 2 1 9 1) ∷ setLevel (label 3) (process 4 1 9 0)
     ∷ []
-    ≡ process 3 3 9 1 ∷ process 3 1 9 1 ∷ process 3 2 9 0
-    ∷ process 3 1 3 1 ∷ process 3 1 2 0
-    ∷ process 3 3 3 1 ∷ process 3 3 3 0
+    ≡ movedOnce 3 3 9 1 ∷ process 3 1 9 1 ∷ process 3 2 9 0
+    ∷ movedOnce 3 1 3 1 ∷ movedOnce 3 1 2 0 ∷ process 3 1 3 1
+    ∷ movedOnce 3 3 3 1 ∷ movedOnce 3 3 3 0 ∷ process 3 3 3 1
     ∷ process 2 1 9 1 ∷ process 2 1 9 1
     ∷ process 3 1 9 0 ∷ process 3 1 9 0
     ∷ []
 unfolding everything
 moves = refl
+
+-- the counter of moves stays at 255
+pub moves-stop :
+    map (λ n. moveBy Both (label 3) (processAfter n 2 1 9 1)) (253 ∷ 254 ∷ 255 ∷ [])
+    ≡ processAfter 254 3 3 3 1 ∷ processAfter 255 3 3 3 1 ∷ processAfter 255 3 3 3 1 ∷ []
+unfolding everything
+moves-stop = refl
 
 -- the FC rule by category: general, security, system, unset, for the roles general, security officer, system administrator
 abbrev byCategory : ℕ → List Answer

@@ -62,8 +62,8 @@ abbrev twoProcesses : ℕ → Facility
 twoProcesses mac =
     putProcess (putProcess
     (putUser (blank (record { mac = mac; fc = 0; sim = 0; ff = 0 })) (record { clearance = label 9; role = 0; trusted = 0 })) 0
-    (record { running = 1; owner = 0; current = label 3; readmark = label 2; writemark = label 7; automatic = 0 })) 1
-    (record { running = 1; owner = 0; current = label 3; readmark = label 1; writemark = label 8; automatic = 1 })
+    (record { running = 1; owner = 0; current = label 3; readmark = label 2; writemark = label 7; automatic = 0; moves = 0 })) 1
+    (record { running = 1; owner = 0; current = label 3; readmark = label 1; writemark = label 8; automatic = 1; moves = 0 })
 
 -- with MAC off no read mark is raised; with MAC on the write mark and automatic stay
 pub by-switch :

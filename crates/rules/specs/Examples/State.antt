@@ -37,7 +37,7 @@ abbrev arrays : Facility → List (List ℕ)
 arrays f =
     f .clearances ∷ f .roles ∷ f .trusts
     ∷ f .lives ∷ f .kinds ∷ f .levels ∷ f .categories ∷ f .datatypes
-    ∷ f .runnings ∷ f .owners ∷ f .currents ∷ f .readmarks ∷ f .writemarks ∷ f .automatics ∷ f .flags ∷ f .parents ∷ []
+    ∷ f .runnings ∷ f .owners ∷ f .currents ∷ f .readmarks ∷ f .writemarks ∷ f .automatics ∷ f .flags ∷ f .parents ∷ f .moves ∷ []
 
 abbrev mixed : Switches
 mixed = record { mac = 1; fc = 2; sim = 3; ff = 4 }
@@ -48,15 +48,16 @@ pub blank-facility :
     ∷ replicate 16 0 ∷ replicate 16 0 ∷ replicate 16 0
     ∷ replicate 128 0 ∷ replicate 128 0 ∷ replicate 128 0 ∷ replicate 128 0 ∷ replicate 128 0
     ∷ replicate 32 0 ∷ replicate 32 0 ∷ replicate 32 0 ∷ replicate 32 0 ∷ replicate 32 0 ∷ replicate 32 0 ∷ replicate 128 0 ∷ replicate 128 0
+    ∷ replicate 32 0
     ∷ replicate 4096 0 ∷ (4 ∷ []) ∷ []
 unfolding everything
 blank-facility = refl
 
--- "Login: current 0, read mark 0, write mark 15, automatic on"; of a process that does not run nothing is kept
+-- "Login: current 0, read mark 0, write mark 15, automatic on", no move yet; of a process that does not run nothing is kept
 pub fresh-process :
     freshProcess 7 ∷ noProcess ∷ []
-    ≡ record { running = 1; owner = 7; current = label 0; readmark = label 0; writemark = label 15; automatic = 1 }
-    ∷ record { running = 0; owner = 0; current = label 0; readmark = label 0; writemark = label 0; automatic = 0 }
+    ≡ record { running = 1; owner = 7; current = label 0; readmark = label 0; writemark = label 15; automatic = 1; moves = 0 }
+    ∷ record { running = 0; owner = 0; current = label 0; readmark = label 0; writemark = label 0; automatic = 0; moves = 0 }
     ∷ []
 unfolding everything
 fresh-process = refl
@@ -108,10 +109,10 @@ abbrev object1 : Object
 object1 = record { live = 1; kind = 2; label = label 255; category = 255; datatype = 0; flags = 12; parent = 1 }
 
 abbrev process0 : Process
-process0 = record { running = 1; owner = 1; current = label 5; readmark = label 2; writemark = label 9; automatic = 1 }
+process0 = record { running = 1; owner = 1; current = label 5; readmark = label 2; writemark = label 9; automatic = 1; moves = 4 }
 
 abbrev process31 : Process
-process31 = record { running = 1; owner = 0; current = label 6; readmark = label 3; writemark = label 8; automatic = 0 }
+process31 = record { running = 1; owner = 0; current = label 6; readmark = label 3; writemark = label 8; automatic = 0; moves = 2 }
 
 abbrev filled : Facility
 filled =
@@ -120,10 +121,11 @@ filled =
     (blank (record { mac = 1; fc = 0; sim = 1; ff = 1 })) user0) user1) object0) object1) 0 process0) 31 process31) 0 1 3) 31 0 2)
     (7 ∷ replicate 15 0)
 
--- all that stands in a facility of two users, two objects, and processes 0, 1 and 31, but for the opens; and the opens
+-- all that stands in a facility of two users, two objects, and processes 0, 1 and 31, with their moves last, but for the opens; and the opens
 abbrev contents : Facility → List (List ℕ)
 contents f =
-    counts f ∷ userBytes f 0 ∷ userBytes f 1 ∷ objectBytes f 0 ∷ objectBytes f 1 ∷ processBytes f 0 ∷ processBytes f 1 ∷ processBytes f 31 ∷ []
+    counts f ∷ userBytes f 0 ∷ userBytes f 1 ∷ objectBytes f 0 ∷ objectBytes f 1 ∷ processBytes f 0 ∷ processBytes f 1 ∷ processBytes f 31
+    ∷ map (at (f .moves)) (0 ∷ 1 ∷ 31 ∷ []) ∷ []
 
 abbrev openMarks : Facility → List (List ℕ)
 openMarks f = openBytes f 0 2 ∷ openBytes f 1 2 ∷ openBytes f 31 2 ∷ []
@@ -132,7 +134,7 @@ pub facility-contents :
     contents filled ++ openMarks filled
     ≡ (1 ∷ 0 ∷ 1 ∷ 2 ∷ 2 ∷ 7 ∷ []) ∷ (12 ∷ 1 ∷ 0 ∷ []) ∷ (3 ∷ 2 ∷ 1 ∷ [])
     ∷ (1 ∷ 0 ∷ 4 ∷ 1 ∷ 1 ∷ []) ∷ (1 ∷ 2 ∷ 255 ∷ 255 ∷ 0 ∷ [])
-    ∷ (1 ∷ 1 ∷ 5 ∷ 2 ∷ 9 ∷ 1 ∷ []) ∷ (0 ∷ 0 ∷ 0 ∷ 0 ∷ 0 ∷ 0 ∷ []) ∷ (1 ∷ 0 ∷ 6 ∷ 3 ∷ 8 ∷ 0 ∷ [])
+    ∷ (1 ∷ 1 ∷ 5 ∷ 2 ∷ 9 ∷ 1 ∷ []) ∷ (0 ∷ 0 ∷ 0 ∷ 0 ∷ 0 ∷ 0 ∷ []) ∷ (1 ∷ 0 ∷ 6 ∷ 3 ∷ 8 ∷ 0 ∷ []) ∷ (4 ∷ 0 ∷ 2 ∷ [])
     ∷ (0 ∷ 3 ∷ []) ∷ (0 ∷ 0 ∷ []) ∷ (2 ∷ 0 ∷ []) ∷ []
 unfolding everything
 facility-contents = refl
@@ -164,7 +166,7 @@ pub cloned-process :
     (contents (cloned filled 0 1)
     ≡ (1 ∷ 0 ∷ 1 ∷ 2 ∷ 2 ∷ 7 ∷ []) ∷ (12 ∷ 1 ∷ 0 ∷ []) ∷ (3 ∷ 2 ∷ 1 ∷ [])
     ∷ (1 ∷ 0 ∷ 4 ∷ 1 ∷ 1 ∷ []) ∷ (1 ∷ 2 ∷ 255 ∷ 255 ∷ 0 ∷ [])
-    ∷ (1 ∷ 1 ∷ 5 ∷ 2 ∷ 9 ∷ 1 ∷ []) ∷ (1 ∷ 1 ∷ 5 ∷ 2 ∷ 9 ∷ 1 ∷ []) ∷ (1 ∷ 0 ∷ 6 ∷ 3 ∷ 8 ∷ 0 ∷ []) ∷ [])
+    ∷ (1 ∷ 1 ∷ 5 ∷ 2 ∷ 9 ∷ 1 ∷ []) ∷ (1 ∷ 1 ∷ 5 ∷ 2 ∷ 9 ∷ 1 ∷ []) ∷ (1 ∷ 0 ∷ 6 ∷ 3 ∷ 8 ∷ 0 ∷ []) ∷ (4 ∷ 4 ∷ 2 ∷ []) ∷ [])
     × ((cloned filled 0 1) .opens ≡ copyProcess (filled .opens) 0 1)
 unfolding everything
 cloned-process = (refl, refl)
@@ -174,7 +176,7 @@ pub terminated-process :
     (contents (terminated filled 31)
     ≡ (1 ∷ 0 ∷ 1 ∷ 2 ∷ 2 ∷ 7 ∷ []) ∷ (12 ∷ 1 ∷ 0 ∷ []) ∷ (3 ∷ 2 ∷ 1 ∷ [])
     ∷ (1 ∷ 0 ∷ 4 ∷ 1 ∷ 1 ∷ []) ∷ (1 ∷ 2 ∷ 255 ∷ 255 ∷ 0 ∷ [])
-    ∷ (1 ∷ 1 ∷ 5 ∷ 2 ∷ 9 ∷ 1 ∷ []) ∷ (0 ∷ 0 ∷ 0 ∷ 0 ∷ 0 ∷ 0 ∷ []) ∷ (0 ∷ 0 ∷ 0 ∷ 0 ∷ 0 ∷ 0 ∷ []) ∷ [])
+    ∷ (1 ∷ 1 ∷ 5 ∷ 2 ∷ 9 ∷ 1 ∷ []) ∷ (0 ∷ 0 ∷ 0 ∷ 0 ∷ 0 ∷ 0 ∷ []) ∷ (0 ∷ 0 ∷ 0 ∷ 0 ∷ 0 ∷ 0 ∷ []) ∷ (4 ∷ 0 ∷ 0 ∷ []) ∷ [])
     × ((terminated filled 31) .opens ≡ closeProcess (filled .opens) 31)
 unfolding everything
 terminated-process = (refl, refl)
@@ -184,7 +186,7 @@ pub deleted-object :
     (contents (deleted filled 1)
     ≡ (1 ∷ 0 ∷ 1 ∷ 2 ∷ 2 ∷ 7 ∷ []) ∷ (12 ∷ 1 ∷ 0 ∷ []) ∷ (3 ∷ 2 ∷ 1 ∷ [])
     ∷ (1 ∷ 0 ∷ 4 ∷ 1 ∷ 1 ∷ []) ∷ (0 ∷ 2 ∷ 255 ∷ 255 ∷ 0 ∷ [])
-    ∷ (1 ∷ 1 ∷ 5 ∷ 2 ∷ 9 ∷ 1 ∷ []) ∷ (0 ∷ 0 ∷ 0 ∷ 0 ∷ 0 ∷ 0 ∷ []) ∷ (1 ∷ 0 ∷ 6 ∷ 3 ∷ 8 ∷ 0 ∷ []) ∷ [])
+    ∷ (1 ∷ 1 ∷ 5 ∷ 2 ∷ 9 ∷ 1 ∷ []) ∷ (0 ∷ 0 ∷ 0 ∷ 0 ∷ 0 ∷ 0 ∷ []) ∷ (1 ∷ 0 ∷ 6 ∷ 3 ∷ 8 ∷ 0 ∷ []) ∷ (4 ∷ 0 ∷ 2 ∷ []) ∷ [])
     × ((deleted filled 1) .opens ≡ closeObject (filled .opens) 1)
 unfolding everything
 deleted-object = (refl, refl)
@@ -194,7 +196,7 @@ pub opened-and-closed :
     contents (closed (opened (opened filled 31 0 1) 1 1 2) 0 1) ++ openMarks (closed (opened (opened filled 31 0 1) 1 1 2) 0 1)
     ≡ (1 ∷ 0 ∷ 1 ∷ 2 ∷ 2 ∷ 7 ∷ []) ∷ (12 ∷ 1 ∷ 0 ∷ []) ∷ (3 ∷ 2 ∷ 1 ∷ [])
     ∷ (1 ∷ 0 ∷ 4 ∷ 1 ∷ 1 ∷ []) ∷ (1 ∷ 2 ∷ 255 ∷ 255 ∷ 0 ∷ [])
-    ∷ (1 ∷ 1 ∷ 5 ∷ 2 ∷ 9 ∷ 1 ∷ []) ∷ (0 ∷ 0 ∷ 0 ∷ 0 ∷ 0 ∷ 0 ∷ []) ∷ (1 ∷ 0 ∷ 6 ∷ 3 ∷ 8 ∷ 0 ∷ [])
+    ∷ (1 ∷ 1 ∷ 5 ∷ 2 ∷ 9 ∷ 1 ∷ []) ∷ (0 ∷ 0 ∷ 0 ∷ 0 ∷ 0 ∷ 0 ∷ []) ∷ (1 ∷ 0 ∷ 6 ∷ 3 ∷ 8 ∷ 0 ∷ []) ∷ (4 ∷ 0 ∷ 2 ∷ [])
     ∷ (0 ∷ 0 ∷ []) ∷ (0 ∷ 2 ∷ []) ∷ (3 ∷ 0 ∷ []) ∷ []
 unfolding everything
 opened-and-closed = refl
@@ -204,7 +206,7 @@ pub counted-once :
     contents (counted filled 0) ++ openMarks (counted filled 0)
     ≡ (1 ∷ 0 ∷ 1 ∷ 2 ∷ 2 ∷ 8 ∷ []) ∷ (12 ∷ 1 ∷ 0 ∷ []) ∷ (3 ∷ 2 ∷ 1 ∷ [])
     ∷ (1 ∷ 0 ∷ 4 ∷ 1 ∷ 1 ∷ []) ∷ (1 ∷ 2 ∷ 255 ∷ 255 ∷ 0 ∷ [])
-    ∷ (1 ∷ 1 ∷ 5 ∷ 2 ∷ 9 ∷ 1 ∷ []) ∷ (0 ∷ 0 ∷ 0 ∷ 0 ∷ 0 ∷ 0 ∷ []) ∷ (1 ∷ 0 ∷ 6 ∷ 3 ∷ 8 ∷ 0 ∷ [])
+    ∷ (1 ∷ 1 ∷ 5 ∷ 2 ∷ 9 ∷ 1 ∷ []) ∷ (0 ∷ 0 ∷ 0 ∷ 0 ∷ 0 ∷ 0 ∷ []) ∷ (1 ∷ 0 ∷ 6 ∷ 3 ∷ 8 ∷ 0 ∷ []) ∷ (4 ∷ 0 ∷ 2 ∷ [])
     ∷ (0 ∷ 3 ∷ []) ∷ (0 ∷ 0 ∷ []) ∷ (2 ∷ 0 ∷ []) ∷ []
 unfolding everything
 counted-once = refl

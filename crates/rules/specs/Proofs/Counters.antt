@@ -4,60 +4,27 @@ use mathlib.Core.Path.{_≡_, refl, sym, _∙_, ap, ap₂}
 use mathlib.Core.Logic.{_≢_}
 use mathlib.Core.Bool.{Bool, true, false, cond}
 use mathlib.Core.List.{List, [], _∷_}
-use lib.Dec.{ltb, eqb}
+use lib.Dec.{eqb}
 use native.Mathlib.Omega.{arith}
-use borrow.Author.Tests.{ltb-true, ltb-false, eqb-true, eq-eqb, ne-eqb}
-use Rattle.rules.specs.Types.{Call, Object, Facility}
+use borrow.Author.Tests.{eqb-true, eq-eqb, ne-eqb}
+use Rattle.rules.specs.Types.{Call, Facility}
 use Rattle.labels.specs.Decisions.{_and_, at}
-use Rattle.labels.specs.Laws.Decisions.{by-test, by-eq, clash}
+use Rattle.labels.specs.Laws.Decisions.{by-test, by-eq}
 use Rattle.answers.specs.Outcomes.{denies, numberOf}
-use Rattle.opens.specs.Opens.{mostObjects}
-use Rattle.state.specs.State.{mostUsers, mostRefusals, refusalsOf, putProcess, putOpens, putObject, addObject, dropObject, oneMore, openBy}
-use Rattle.rules.specs.Effects.{effectFrom, effectBy}
+use Rattle.state.specs.State.{Users, mostUsers, mostRefusals, refusalsOf}
 use Rattle.rules.specs.Calls.{ownerIn, accepted, query, afterRefusal, after}
 use Rattle.rules.specs.Histories.{run, outcomes, Step, past, ownerAfter}
-use Rattle.rules.specs.Requests.{Action, Login, Clone, SendSignal, SetLevel, Terminate, Create, OnObject, Unknown, OpenChange, Keep, Add, Close}
-use Rattle.rules.specs.Requests.{CloseAll, actionOf, inDirectory, openChange}
+use Rattle.rules.specs.Requests.{actionOf}
 use Rattle.rules.specs.Setup.{fresh}
 use Rattle.rules.specs.Promises.{denialsIn, denialsOf, sumTo, CountersCount}
 use Rattle.rules.specs.Questions.{number}
 use Rattle.state.specs.Shaped.{Shaped}
-use Rattle.state.specs.Laws.ReadBack.{counted-own, counted-other}
+use Rattle.state.specs.Laws.ReadBack.{counted-own, counted-other, one-more}
 use Rattle.rules.specs.Proofs.Fresh.{fresh-setup}
-use Rattle.rules.specs.Proofs.Owners.{Owned, owned-after, denied-owner}
+use Rattle.rules.specs.Proofs.Owners.{Owned, owned-after, denied-owner, unowned}
+use Rattle.rules.specs.Proofs.Processes.{effect-untouched}
 use Rattle.rules.specs.Proofs.Regular.{Regular, regular-after, regular-run}
 use Rattle.rules.specs.Proofs.Refusals.{not-denied, query-number}
-
-open-refusals : (o : OpenChange) (f : Facility) (p t : ℕ) → (openBy o f p t) .refusals ≡ f .refusals
-unfolding openBy putOpens dropObject
-open-refusals Keep f p t = refl
-open-refusals (Add m) f p t = refl
-open-refusals Close f p t = refl
-open-refusals CloseAll f p t = refl
-
-add-refusals : (f : Facility) (o : Object) → (addObject f o) .refusals ≡ f .refusals
-unfolding addObject putObject
-add-refusals f o = by-test (ltb (f .entered) mostObjects) (λ e. rw e) (λ e. rw e)
-
--- an accepted call leaves the counters
-effect-refusals : (k : Action) (f : Facility) (c : Call) → (effectBy k f c) .refusals ≡ f .refusals
-unfolding effectFrom putProcess putOpens
-effect-refusals Login f c = refl
-effect-refusals Clone f c = refl
-effect-refusals SendSignal f c = refl
-effect-refusals Unknown f c = refl
-effect-refusals SetLevel f c = refl
-effect-refusals Terminate f c = refl
-effect-refusals Create f c =
-    by-test (inDirectory (c .extra)) (λ e. rw e (add-refusals (putProcess f (c .process) _) _)) (λ e. rw e (add-refusals f _))
-effect-refusals OnObject f c = open-refusals (openChange (c .request)) (putProcess f (c .process) _) (c .process) (c .target)
-
--- one call more
-capped : (n d : ℕ) → n ≡ min d mostRefusals → oneMore n ≡ min (1 + d) mostRefusals
-capped n d h =
-    by-test (ltb n mostRefusals)
-    (λ e. rw e (let b : n < mostRefusals = ltb-true n mostRefusals e in omega arith))
-    (λ e. rw e (let b : mostRefusals ≤ n = ltb-false n mostRefusals e in omega arith))
 
 -- user u's counter after a call, by what it was before and whether the call is a denial of u's; o is the caller's owner where it is a denial
 call-refusals : (f : Facility) (c : Call) (u d o : ℕ) → u < mostUsers → Shaped f → (denies (number f c) ≡ true → ownerIn f c ≡ o)
@@ -70,10 +37,10 @@ call-refusals f c u d o b S w h =
     (λ e.
     let n : number f c ≡ 0 = eqb-true _ _ e in
     let z = not-denied (number f c) (omega arith) in
-    rw (e, z) (ap (λ (x : List ℕ). at x u) (effect-refusals (actionOf (c .request)) f c) ∙ omega arith))
+    rw (e, z) (ap (λ (x : ℕ × Users × List ℕ). at (x .2) u) (effect-untouched (actionOf (c .request)) f c) ∙ omega arith))
     (λ e. by-test (denies (number f c))
     (λ k. rw (e, k, w k) (by-eq o u
-    (λ q. rw (eq-eqb o u q, q) (counted-own f u S b ∙ capped (refusalsOf f u) d h))
+    (λ q. rw (eq-eqb o u q, q) (counted-own f u S b ∙ one-more mostRefusals (refusalsOf f u) d h))
     (λ n. rw (ne-eqb o u n) (counted-other f o u (λ z. n (sym z)) ∙ omega arith))))
     (λ k. rw (e, k) (omega arith))))
 
@@ -85,10 +52,6 @@ run-refusals [] f xs u b R O h = h
 run-refusals (c ∷ cs) f xs u b R O h =
     run-refusals cs (after f c) (record { before = f; call = c } ∷ xs) u b (regular-after f c R) (owned-after f c xs (R .sound) O)
     (call-refusals f c u (denialsOf u xs) _ b (R .sound .shaped) (λ d. denied-owner f c xs O d .1) h)
-
--- in a fresh facility nobody runs
-unowned : (s : List ℕ) → Owned [] (fresh s)
-unowned s p r = clash r (fresh-setup s .stopped p)
 
 each' : (s : List ℕ) (cs : List Call) (u : ℕ) → u < mostUsers
     → refusalsOf (run (fresh s) cs) u ≡ min (denialsOf u (past (fresh s) cs [])) mostRefusals

@@ -12,8 +12,7 @@ use borrow.Author.Tests.{eqb-true, eq-eqb, ne-eqb}
 use Rattle.rules.specs.Types.{Process, Object, Facility}
 use Rattle.labels.specs.Decisions.{at, on}
 use Rattle.labels.specs.Laws.Decisions.{or-cases, by-test, by-eq}
-use Rattle.state.specs.Shaped.{Shaped}
-use Rattle.state.specs.Laws.ReadBack.{process-same, process-other, object-new, object-old}
+use Rattle.state.specs.Laws.ReadBack.{object-new, object-old}
 use Rattle.opens.specs.Opens.{mostProcesses, mostObjects, mostOpens, reading, writing}
 use Rattle.state.specs.State.{objectIn, processOf, objectOf, runs, trustedUser, labelOf, opensOf, putProcess, putOpens, putObject, dropObject, putRefusals}
 use Rattle.state.specs.State.{counted}
@@ -22,6 +21,7 @@ use Rattle.labels.specs.Laws.Labels.{⊑-trans}
 use Rattle.rules.specs.Flow.{Above}
 use Rattle.rules.specs.Matter.{Set, only, put, Account, processGains, objectGains, assign, enter}
 use Rattle.rules.specs.Proofs.Sound.{Sound, sound-process, sound-opens, sound-counted, sound-object, sound-drop}
+use Rattle.rules.specs.Proofs.Processes.{each}
 
 -- an untrusted process: its marks stand on both sides of its level
 pub record Ordered (r : Process) : Type 0 where
@@ -65,14 +65,6 @@ pub record Inv (f : Facility) (a : Account) : Type 0 where
   pub process : (p : ℕ) → FitsAt f a p (processOf f p)
   pub holds : (x c : ℕ) → a .objects x c ≡ true → Holds (f .entered) (labelOf f x) (labelOf f c) x c
 
--- what holds of r at p and of every other process holds of each after r is put at p
-pub each : (f : Facility) (p : ℕ) (r : Process) (P : ℕ → Process → Type 0) → Shaped f → p < mostProcesses
-    → P p r → ((q : ℕ) → P q (processOf f q)) → (q : ℕ) → P q (processOf (putProcess f p r) q)
-each f p r P s h new old q =
-    by-eq q p
-    (λ e. subst⁻¹ (λ (k : ℕ). P k (processOf (putProcess f p r) k)) e (subst⁻¹ (P p) (process-same f p r s h) new))
-    (λ n. subst⁻¹ (P q) (process-other f p q r n) (old q))
-
 -- a process is replaced
 pub inv-process : (f : Facility) (a : Account) (p : ℕ) (r : Process) → Inv f a → p < mostProcesses → FitsAt f a p r → Inv (putProcess f p r) a
 unfolding putProcess opensOf
@@ -82,7 +74,7 @@ inv-process f a p r I h F =
       mac = I .mac;
       next = I .next;
       kinds = I .kinds;
-      process = each f p r (FitsAt f a) (I .sound .shaped) h F (I .process);
+      process = each f p r (FitsAt f a) (I .sound .shaped) h F (λ q n. I .process q);
       holds = I .holds;
     }
 

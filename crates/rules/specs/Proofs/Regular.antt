@@ -32,7 +32,7 @@ use Rattle.rules.specs.Modules.{View, viewOf, classIn, macObject, macRul
 use Rattle.rules.specs.Questions.{number}
 use Rattle.rules.specs.Proofs.Moves.{object-granted}
 use Rattle.rules.specs.Proofs.Classes.{request-create, create-directory}
-use Rattle.rules.specs.Proofs.Invariant.{each}
+use Rattle.rules.specs.Proofs.Processes.{each}
 use Rattle.rules.specs.Proofs.Sound.{Sound, sound-process, sound-opens, sound-counted, sound-user, sound-object, sound-drop}
 use Rattle.rules.specs.Proofs.Passed.{Passed, passed, mac-passed, accepted-zero}
 
@@ -66,7 +66,7 @@ regular-process f p r R h L =
       user = R .user;
       object = R .object;
       parent = R .parent;
-      process = each f p r (λ q x. LawfulProcess x) (R .sound .shaped) h L (R .process);
+      process = each f p r (λ q x. LawfulProcess x) (R .sound .shaped) h L (λ q n. R .process q);
     }
 
 regular-opens : (f : Facility) (l : List ℕ) → length l ≡ mostOpens → Regular f → Regular (putOpens f l)

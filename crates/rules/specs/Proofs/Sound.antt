@@ -109,6 +109,7 @@ sound-blank s =
           readmarks = zeros-length mostProcesses;
           writemarks = zeros-length mostProcesses;
           automatics = zeros-length mostProcesses;
+          moves = zeros-length mostProcesses;
         };
         opens = zeros-length mostOpens;
         refusals = zeros-length mostUsers;
@@ -133,4 +134,5 @@ blank-process s p =
       readmark = label (at-zeros mostProcesses p i);
       writemark = label (at-zeros mostProcesses p i);
       automatic = at-zeros mostProcesses p i;
+      moves = at-zeros mostProcesses p i;
     }

@@ -11,17 +11,18 @@ use Rattle.labels.specs.Decisions.{_and_}
 use Rattle.labels.specs.Laws.Decisions.{or-r}
 use Rattle.state.specs.Laws.ReadBack.{process-other}
 use Rattle.opens.specs.Opens.{mostProcesses}
-use Rattle.state.specs.State.{processOf, runs, clearanceOf, putProcess, putOpens, dropObject, freshProcess, openBy}
+use Rattle.state.specs.State.{processOf, runs, clearanceOf, putProcess, freshProcess, openBy}
 use Rattle.labels.specs.Labels.{Label}
 use Rattle.labels.specs.Laws.Labels.{eq-same}
 use Rattle.answers.specs.Answers.{passes}
 use Rattle.answers.specs.Laws.Answers.{grant-passes}
 use Rattle.rules.specs.Effects.{effectFrom, effectBy}
 use Rattle.rules.specs.Calls.{accepted}
-use Rattle.rules.specs.Requests.{Login, SendSignal, SetLevel, OpenChange, Keep, Add, Close, CloseAll, actionOf}
+use Rattle.rules.specs.Requests.{Login, SendSignal, SetLevel, OpenChange, actionOf}
 use Rattle.rules.specs.Matter.{nothing, union, Account, assign, carryBy}
 use Rattle.rules.specs.Modules.{viewOf, maySet, macSignal, macRule, setLevel, levelled, readMarkRaised, signalled}
 use Rattle.rules.specs.Proofs.Passed.{accepted-by}
+use Rattle.rules.specs.Proofs.Processes.{open-process}
 use Rattle.rules.specs.Proofs.Witness.{alone-is, Setting, Scene, put-scene, Reach, reach-call}
 
 -- a login of u as process p; a set-level of p; a signal from p to q
@@ -41,13 +42,6 @@ kept-scene q f₀ f g a b u s Q T e =
     record { small = Q .small; setting = T; process = e ∙ Q .process; running = Q .running; owner = Q .owner }
 
 -- a call on an object by p leaves the other processes
-open-process : (o : OpenChange) (f : Facility) (p t q : ℕ) → processOf (openBy o f p t) q ≡ processOf f q
-unfolding openBy putOpens dropObject
-open-process Keep f p t q = refl
-open-process (Add m) f p t q = refl
-open-process Close f p t q = refl
-open-process CloseAll f p t q = refl
-
 pub other-kept : (o : OpenChange) (f : Facility) (p t q : ℕ) (r : Process) → q ≢ p → processOf (openBy o (putProcess f p r) p t) q ≡ processOf f q
 other-kept o f p t q r n = open-process o (putProcess f p r) p t q ∙ process-other f p q r n
 

@@ -7,7 +7,8 @@ use Rattle.state.proofs.process_at.Tie as tie
 returns : tie.Need-returns
 unfolding processIn
 returns c =
-    let c6 = c in
+    let c7 = c in
+    let c6 = c7 .before in
     let c5 = c6 .before in
     let c4 = c5 .before in
     let c3 = c4 .before in
@@ -20,10 +21,11 @@ returns c =
       readmark = c2 .label-at2 .ensures i;
       writemark = c3 .label-at3 .ensures i;
       automatic = c6 .at3 .ensures i;
+      moves = c7 .at4 .ensures i;
     }
 
 pub process-at-spec : {M : Type 1} → statement M
 process-at-spec =
     tie.close
     (tie.spec (λ c κs. search needs) (λ c κs. search needs) (λ c κs. search needs) (λ c κs. search needs) (λ c κs. search needs)
-    (λ c κs. search needs) returns)
+    (λ c κs. search needs) (λ c κs. search needs) returns)

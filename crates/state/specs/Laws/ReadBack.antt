@@ -1,13 +1,15 @@
 -- What each way of changing a facility does to what is read off it.
-use Prim.Native.Nat.{ℕ, _<_, _≤_}
+use Prim.Native.Nat.{ℕ, _+_, _<_, _≤_, min}
 use mathlib.Core.Path.{_≡_, ap, _∙_, sym}
 use mathlib.Core.List.{List}
 use mathlib.Core.Logic.{_≢_}
 use lib.ListN.{length, set, length-set}
 use lib.Seq.{getD-set-same, getD-set-other, set-out, set-getD}
 use native.Mathlib.Omega.{arith}
-use borrow.Author.Tests.{lt-ltb, le-ltb}
+use borrow.Author.Tests.{lt-ltb, le-ltb, ltb-true, ltb-false}
+use lib.Dec.{ltb}
 use Rattle.labels.specs.Decisions.{at}
+use Rattle.labels.specs.Laws.Decisions.{by-test}
 use Rattle.state.specs.State.{Facility, Process, processIn, processOf, putProcess, User, mostUsers, userIn, userOf, putUser, Object, objectIn}
 use Rattle.state.specs.State.{objectOf, putObject, addUser, addObject, putOpens, dropObject, putRefusals, opensOf, processesFrom, usersIn, objectsIn}
 use Rattle.state.specs.State.{processesIn, with, objectsFrom, putMarks, deleted, counted, refusalsOf, mostRefusals, oneMore}
@@ -35,6 +37,7 @@ process-same f p r s h =
       readmark = label (at-same (f .readmarks) p (r .readmark .level) mostProcesses (l .readmarks) h i);
       writemark = label (at-same (f .writemarks) p (r .writemark .level) mostProcesses (l .writemarks) h i);
       automatic = at-same (f .automatics) p (r .automatic) mostProcesses (l .automatics) h i;
+      moves = at-same (f .moves) p (r .moves) mostProcesses (l .moves) h i;
     }
 
 pub process-other : (f : Facility) (p q : ℕ) (r : Process) → q ≢ p → processOf (putProcess f p r) q ≡ processOf f q
@@ -47,6 +50,7 @@ process-other f p q r h =
       readmark = label (at-other (f .readmarks) p q (r .readmark .level) h i);
       writemark = label (at-other (f .writemarks) p q (r .writemark .level) h i);
       automatic = at-other (f .automatics) p q (r .automatic) h i;
+      moves = at-other (f .moves) p q (r .moves) h i;
     }
 
 -- so with a new user and a new object
@@ -120,6 +124,7 @@ shaped-process f p r s =
         readmarks = simp length-set (l .readmarks);
         writemarks = simp length-set (l .writemarks);
         automatics = simp length-set (l .automatics);
+        moves = simp length-set (l .moves);
       };
       opens = s .opens;
       refusals = s .refusals;
@@ -212,7 +217,8 @@ process-out f p r s h =
     (out (f .currents) (r .current .level) (s .currents) i)
     (out (f .readmarks) (r .readmark .level) (s .readmarks) i)
     (out (f .writemarks) (r .writemark .level) (s .writemarks) i)
-    (out (f .automatics) (r .automatic) (s .automatics) i))
+    (out (f .automatics) (r .automatic) (s .automatics) i)
+    (out (f .moves) (r .moves) (s .moves) i))
     (f .opens) (f .refusals)
   where
     out : (l : List ℕ) (v : ℕ) → length l ≡ mostProcesses → set l p v ≡ l
@@ -223,8 +229,15 @@ unfolding putOpens
 opens-out f n v e h =
     λ i. with f (f .users) (usersIn f) (f .entered) (objectsIn f) (processesIn f) (set-out (f .opens) n v (omega arith) i) (f .refusals)
 
+-- a counter with a stop: it stays what its count is, up to the stop
+pub one-more : (most n d : ℕ) → n ≡ min d most → oneMore most n ≡ min (1 + d) most
+one-more most n d h =
+    by-test (ltb n most)
+    (λ e. rw e (let b : n < most = ltb-true n most e in omega arith))
+    (λ e. rw e (let b : most ≤ n = ltb-false n most e in omega arith))
+
 -- a refusal of user u is one more of u's, and of no other's
-pub counted-own : (f : Facility) (u : ℕ) → Shaped f → u < mostUsers → refusalsOf (counted f u) u ≡ oneMore (refusalsOf f u)
+pub counted-own : (f : Facility) (u : ℕ) → Shaped f → u < mostUsers → refusalsOf (counted f u) u ≡ oneMore mostRefusals (refusalsOf f u)
 unfolding counted putRefusals
 counted-own f u s h = at-same (f .refusals) u _ mostUsers (s .refusals) h
 

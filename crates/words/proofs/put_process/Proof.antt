@@ -1,12 +1,31 @@
--- A process that runs is told by its numbers.
+-- A process that runs is told by its numbers, and the bound of its moves behind them.
+use mathlib.Core.List.{[], _∷_}
 use borrow.Author.Needs.{needs}
 use borrow.Author.Tests.{eq-eqb, ne-eqb}
+use Rattle.rules.specs.Lines.{decimal}
+use Rattle.rules.specs.Text.{ascii}
+use Rattle.words.specs.Patterns.{filled}
+use Rattle.words.proofs.Stores.{end, _▸_, stores}
 use Rattle.words.proofs.put_process.Statement.{statement}
 use Rattle.words.proofs.put_process.Tie as tie
+
+running : tie.Need-returns
+running c =
+    let c1 = c .before in
+    let c3 = c1 .before .before in
+    let c7 = c3 .before .before .before .before in
+    let a = c7 .before .before .args in
+    let r = a .r in
+    rw (eq-eqb _ 1 (c7 .if1 .taken))
+    (stores (a .out .now) (a .place)
+    (filled (ascii "user #, clearance #, current #, marks # to #, moved # times of at most ")
+    (r .owner ∷ a .u .clearance .level ∷ r .current .level ∷ r .readmark .level ∷ r .writemark .level ∷ r .moves ∷ []))
+    (decimal _ ∷ [])
+    (c3 .put-filled .ensures ▸ rw (c1 .rank .ensures) at (c .put-decimal .ensures) ▸ end))
 
 pub put-process-spec : {M : Type 1} → statement M
 put-process-spec =
     tie.close
-    (tie.spec (λ c. search needs) (λ c. search needs) (λ c κs. search needs)
-    (λ c. rw (eq-eqb _ 1 (c .before .before .before .before .if1 .taken)) (c .put-filled .ensures))
+    (tie.spec (λ c. search needs) (λ c. search needs) (λ c κs. search needs) (λ c κs. search needs) (λ c. search needs) (λ c. search needs)
+    (λ c κs. search needs) running
     (λ c. search needs) (λ c κs. search needs) (λ c. rw (ne-eqb _ 1 (c .before .before .before .if1 .left)) (c .put-text .ensures)))
