@@ -8,7 +8,7 @@
 
 #include "plain.h"
 
-enum { CALLS = 4096, WARM = 20, ROUNDS = 800, TRIALS = 400000, RAISED = 1000, MOVED = 1000, STOPPED = 100 };
+enum { CALLS = 4096, WARM = 20, ROUNDS = 800, TRIALS = 400000, RAISED = 1000, MOVED = 1000, STOPPED = 100, JOINED = 50, APART = 100 };
 
 static uint64_t seed = 1;
 
@@ -36,8 +36,21 @@ static uint8_t random_flags(void)
     return (uint8_t)((random_below(6) ? 0 : each[random_below(4)]) | (random_below(3) ? HV_ADD_INHERITED : 0));
 }
 
+/* A set of these categories; of none the empty one. */
+static uint8_t random_set(uint8_t categories)
+{
+    return categories ? (uint8_t)(categories & random_below(256)) : 0;
+}
+
+/* The categories that the labels of a set-up have: often none, else mostly few, so that equal sets occur. */
+static uint8_t random_categories(void)
+{
+    uint32_t way = random_below(8);
+    return way < 3 ? 0 : way < 7 ? (uint8_t)(3 << random_below(7)) : HV_ALL_CATEGORIES;
+}
+
 /* A set-up with users of all roles and objects of all kinds, half of them in a directory before them. */
-static size_t random_setup(uint8_t *s, int switches)
+static size_t random_setup(uint8_t *s, int switches, uint8_t categories)
 {
     size_t at = 8, objects = 4 + random_below(30), directories = 0;
     uint8_t parents[64];
@@ -45,12 +58,13 @@ static size_t random_setup(uint8_t *s, int switches)
     memcpy(s, (uint8_t[5]){3, switches & 1, (switches >> 1) & 1, (switches >> 2) & 1, (switches >> 3) & 1}, 5);
     for (int u = 0; u < 4; u++, at += 8) {
         uint8_t clearance = byte_below(6), role = byte_below(3), trusted = random_below(5) == 0;
-        memcpy(s + at, (uint8_t[4]){1, clearance, role, trusted}, 4);
+        uint8_t set = categories && random_below(3) ? categories : random_set(categories);
+        memcpy(s + at, (uint8_t[5]){1, clearance, role, trusted, set}, 5);
     }
     for (size_t t = 0; t < objects; t++, at += 8) {
         uint8_t kind = byte_below(4), level = or_unset(6), category = or_unset(3), datatype = random_below(4) == 0;
         uint8_t flags = random_flags(), parent = directories && random_below(2) ? parents[random_below((uint32_t)directories)] : 0;
-        memcpy(s + at, (uint8_t[7]){2, kind, level, category, datatype, flags, parent}, 7);
+        memcpy(s + at, (uint8_t[8]){2, kind, level, category, datatype, flags, parent, level == HV_UNSET ? 0 : random_set(categories)}, 8);
         if (kind == HV_DIRECTORY) parents[directories++] = (uint8_t)(t + 1);
     }
     return at;
@@ -65,46 +79,71 @@ static void random_call(uint8_t c[4])
     c[3] = (uint8_t)(random_below(40) ? random_below(4) : random_below(256));
 }
 
-/* A login, a set-level or a signal among few processes, the signal to one of the same level where there is one. */
+/* One for a set-up without categories: of set-level t is the set. */
+static void random_call_by_level(uint8_t c[4])
+{
+    random_call(c);
+    if (c[0] == HV_SET_LEVEL) c[2] = 0;
+}
+
+static int same_current(const hv_facility *f, uint8_t p, uint8_t q)
+{
+    return f->currents[p] == f->currents[q] && f->currentsets[p] == f->currentsets[q];
+}
+
+/* A login, a set-level or a signal among few processes, the signal to one of the same label where there is one. */
 static void random_signal(const hv_facility *f, uint8_t c[4])
 {
-    uint8_t p = byte_below(4), q = byte_below(4), way = byte_below(6);
-    for (int k = 0; k < 4 && (f->runnings[q] != 1 || f->currents[q] != f->currents[p]); k++) q = (uint8_t)((q + 1) % 4);
+    uint8_t p = byte_below(4), q = byte_below(4), other = byte_below(4), way = byte_below(6);
+    for (int k = 0; k < 4 && way != 2 && (f->runnings[q] != 1 || !same_current(f, p, q)); k++) q = (uint8_t)((q + 1) % 4);
     if (f->runnings[p] != 1) memcpy(c, (uint8_t[4]){HV_LOGIN, p, 0, byte_below(4)}, 4);
-    else if (way == 0) memcpy(c, (uint8_t[4]){HV_SET_LEVEL, p, 0, byte_below(6)}, 4);
-    else if (way == 1) memcpy(c, (uint8_t[4]){HV_SET_LEVEL, p, 0, f->currents[byte_below(4)]}, 4);
+    else if (way == 0) memcpy(c, (uint8_t[4]){HV_SET_LEVEL, p, random_set(f->clearancesets[f->owners[p] % HV_USERS]), byte_below(6)}, 4);
+    else if (way == 1) memcpy(c, (uint8_t[4]){HV_SET_LEVEL, p, f->currentsets[other], f->currents[other]}, 4);
     else memcpy(c, (uint8_t[4]){HV_SEND_SIGNAL, p, q, 0}, 4);
 }
 
 /* A login, a clone, a terminate or, mostly, a call of class R, W or B, so that levels move; of processes whose level few other calls set. */
 static void random_move(const hv_facility *f, uint8_t c[4])
 {
-    static const uint8_t requests[] = {HV_READ_OPEN, HV_READ_OPEN, HV_WRITE_OPEN, HV_WRITE_OPEN, HV_READ_WRITE_OPEN, HV_EXECUTE, HV_SEARCH, HV_WRITE,
-                                       HV_CREATE, HV_ALTER, HV_GET_STATUS_DATA, HV_MODIFY_ACCESS_DATA};
-    uint8_t p = (uint8_t)(4 + byte_below(4)), way = byte_below(12);
+    static const uint8_t requests[] = {HV_READ_OPEN, HV_READ_OPEN, HV_EXECUTE, HV_SEARCH, HV_GET_STATUS_DATA, HV_WRITE_OPEN, HV_WRITE_OPEN,
+                                       HV_READ_WRITE_OPEN, HV_WRITE, HV_CREATE, HV_ALTER, HV_MODIFY_ACCESS_DATA};
+    enum { READS = 5 };
+    uint8_t p = (uint8_t)(4 + byte_below(4)), way = byte_below(16);
     if (f->runnings[p] != 1) memcpy(c, (uint8_t[4]){HV_LOGIN, p, 0, byte_below(4)}, 4);
     else if (way < 2) memcpy(c, (uint8_t[4]){HV_TERMINATE, p, 0, 0}, 4);
     else if (way == 2) memcpy(c, (uint8_t[4]){HV_CLONE, p, (uint8_t)(4 + byte_below(4)), 0}, 4);
     else
         for (int k = 0; k < 8 && (k == 0 || plain_query(f, c[0], p, c[2], c[3]).number != 0); k++) {
-            uint8_t request = requests[random_below(sizeof requests)], t = byte_below(34), e = byte_below(2);
+            uint8_t request = requests[random_below(way < 8 ? READS : sizeof requests)], t = byte_below(34), e = byte_below(2);
             memcpy(c, (uint8_t[4]){request, p, t, e}, 4);
         }
 }
 
-/* Puts two processes to one level with a read mark below it, also with MAC off, where calls leave every level 0. */
-static void put_levels(hv_facility *f, uint8_t p, uint8_t q, uint8_t level)
+/* Puts two processes to one label with a read mark below it, also with MAC off, where calls leave every label as at login. */
+static void put_labels(hv_facility *f, uint8_t p, uint8_t q, hv_label label)
 {
     if (p >= HV_PROCESSES || q >= HV_PROCESSES || f->runnings[p] != 1 || f->runnings[q] != 1) return;
-    f->currents[p] = f->currents[q] = level;
-    f->readmarks[p] = f->readmarks[q] = level / 2;
+    f->currents[p] = f->currents[q] = label.level;
+    f->readmarks[p] = f->readmarks[q] = label.level / 2;
+    f->currentsets[p] = f->currentsets[q] = label.set;
+    f->readsets[p] = f->readsets[q] = label.set & 0x55;
 }
 
+/* Any byte as the set of one of the three labels of a process that runs. */
+static void put_set(hv_facility *f, uint8_t p, uint32_t which, uint8_t set)
+{
+    if (p >= HV_PROCESSES || f->runnings[p] != 1) return;
+    if (which == 0) f->currentsets[p] = set;
+    else if (which == 1) f->readsets[p] = set;
+    else f->writesets[p] = set;
+}
+
+/* All of a facility but its padding. */
 static int same(const hv_facility *a, const hv_facility *b)
 {
-    return memcmp(a, b, offsetof(hv_facility, opens) + sizeof a->opens) == 0 && memcmp(a->refusals, b->refusals, sizeof a->refusals) == 0
-        && a->ff == b->ff && memcmp(a->flags, b->flags, sizeof a->flags) == 0 && memcmp(a->parents, b->parents, sizeof a->parents) == 0
-        && memcmp(a->moves, b->moves, sizeof a->moves) == 0;
+    enum { PAD = offsetof(hv_facility, opens) + HV_PROCESSES * HV_OBJECTS, PAD_END = offsetof(hv_facility, refusals) };
+    enum { TAIL = offsetof(hv_facility, writesets) + HV_PROCESSES };
+    return memcmp(a, b, PAD) == 0 && memcmp((const uint8_t *)a + PAD_END, (const uint8_t *)b + PAD_END, TAIL - PAD_END) == 0;
 }
 
 /* Set-ups written out, also after deletions, are the same. */
@@ -127,7 +166,8 @@ static int same_flags(const hv_facility *plain, const hv_facility *proved, uint8
 }
 
 /* The next call, many of them signals or moves. Now and then an object is put open for both at a process that runs, so that a write meets a
- * read-only one, or sender and receiver of a signal are put to one level, or the moves of the caller to the stop or next to it. */
+ * read-only one, or sender and receiver of a signal are put to one label, or the moves of the caller to the stop or next to it, or a set of the
+ * caller to any byte. */
 static void next_call(hv_facility *plain, hv_facility *proved, uint8_t c[4])
 {
     uint32_t way = random_below(6);
@@ -137,30 +177,40 @@ static void next_call(hv_facility *plain, hv_facility *proved, uint8_t c[4])
     if (random_below(8) == 0 && c[1] < HV_PROCESSES && c[2] < HV_OBJECTS && plain->runnings[c[1]] == 1 && plain->lives[c[2]] == 1)
         plain->opens[c[1] * HV_OBJECTS + c[2]] = proved->opens[c[1] * HV_OBJECTS + c[2]] = HV_OPEN_READING | HV_OPEN_WRITING;
     if (c[0] == HV_SEND_SIGNAL && random_below(8) == 0) {
-        uint8_t level = byte_below(6);
-        put_levels(plain, c[1], c[2], level);
-        put_levels(proved, c[1], c[2], level);
+        hv_label label = {byte_below(6), random_set(random_categories())};
+        put_labels(plain, c[1], c[2], label);
+        put_labels(proved, c[1], c[2], label);
+    }
+    if (random_below(64) == 0) {
+        uint32_t which = random_below(3);
+        uint8_t set = byte_below(256);
+        put_set(plain, c[1], which, set);
+        put_set(proved, c[1], which, set);
     }
     if (way == 1 && random_below(8) == 0) plain->moves[c[1]] = proved->moves[c[1]] = (uint8_t)(UINT8_MAX - byte_below(3));
 }
 
 /* What the calls of the agreement did. */
-static struct { long accepted, signals, raised, left, moved, stopped; } seen;
+static struct { long accepted, signals, raised, left, moved, stopped, sets, joined, apart; } seen;
 
 /* Counts a call by the caller's and the target's process before it and after it. */
 static void count_seen(const hv_facility *before, const hv_facility *after, const uint8_t c[4], hv_outcome o)
 {
     uint8_t p = c[1] % HV_PROCESSES, receiver = c[2] % HV_PROCESSES;
+    if (c[0] == HV_SEND_SIGNAL && o.number == HV_DENIED) seen.apart += before->currents[p] == before->currents[receiver];
     if (o.number != 0) return;
     seen.accepted++;
     if (c[0] == HV_SEND_SIGNAL) {
         seen.signals++;
-        seen.raised += after->readmarks[receiver] > before->readmarks[receiver];
-        seen.left += after->readmarks[receiver] < after->currents[receiver];
+        seen.raised += after->readmarks[receiver] != before->readmarks[receiver] || after->readsets[receiver] != before->readsets[receiver];
+        seen.left += after->readmarks[receiver] != after->currents[receiver] || after->readsets[receiver] != after->currentsets[receiver];
     }
     if (c[0] == HV_LOGIN || c[0] == HV_TERMINATE || c[0] == HV_SET_LEVEL) return;
+    int set = after->currentsets[p] != before->currentsets[p];
     seen.moved += after->moves[p] > before->moves[p];
-    seen.stopped += after->currents[p] != before->currents[p] && after->moves[p] == before->moves[p];
+    seen.stopped += (set || after->currents[p] != before->currents[p]) && after->moves[p] == before->moves[p];
+    seen.sets += set;
+    seen.joined += set && c[2] < HV_OBJECTS && after->currentsets[p] != before->sets[c[2]];
 }
 
 static int enough_seen(void)
@@ -168,12 +218,15 @@ static int enough_seen(void)
     printf("agreement\t%d\t%ld\n", TRIALS, seen.accepted);
     printf("signals\t%ld\t%ld\t%ld\n", seen.signals, seen.raised, seen.left);
     printf("moves\t%ld\t%ld\n", seen.moved, seen.stopped);
-    if (seen.raised < RAISED || seen.left < RAISED) return printf("too few signals that raise a mark, or leave one below the level\n"), 0;
+    printf("labels\t%ld\t%ld\t%ld\n", seen.sets, seen.joined, seen.apart);
+    if (seen.raised < RAISED || seen.left < RAISED) return printf("too few signals that raise a mark, or leave one below the label\n"), 0;
     if (seen.moved < MOVED || seen.stopped < STOPPED) return printf("too few moves, or moves at the stop\n"), 0;
+    if (seen.sets < MOVED || seen.joined < JOINED || seen.apart < APART)
+        return printf("too few moves of the set, or to the sets of two, or signals refused at one level\n"), 0;
     return 1;
 }
 
-/* Random calls on random set-ups: outcome, state, query, flags and set-up written out are the same. */
+/* Random calls on random set-ups: outcome, state, query, flags, the bound on moves and set-up written out are the same. */
 static int agree(void)
 {
     static hv_facility plain, proved;
@@ -182,7 +235,7 @@ static int agree(void)
             uint8_t s[HV_SETUP_MOST];
             uint16_t index;
             if (k > 0 && !same_written(&plain, &proved)) return printf("set-ups written out after calls differ\n"), 0;
-            size_t n = random_setup(s, (int)random_below(16));
+            size_t n = random_setup(s, (int)random_below(16), random_categories());
             if (random_below(10) == 0) s[random_below((uint32_t)n)] = (uint8_t)random_below(256);
             uint8_t number = plain_read_setup(&plain, s, n, &index);
             hv_reading r = hv_read_setup(s, n);
@@ -208,6 +261,7 @@ static int agree(void)
             return printf("call %d %d %d %d differs: %d and %d\n", c[0], c[1], c[2], c[3], o.number, e.outcome.number), 0;
         if (!same_flags(&plain, &proved, c[2]) || (o.number == 0 && !same_flags(&plain, &proved, o.object)))
             return printf("flags after call %d %d %d %d differ\n", c[0], c[1], c[2], c[3]), 0;
+        if (hv_most_moves(proved, c[3]) != plain_most_moves(&plain, c[3])) return printf("most moves of user %d differ\n", c[3]), 0;
     }
     return enough_seen();
 }
@@ -223,7 +277,7 @@ static void make(list *l, const hv_facility *start, enum wanted wanted)
     l->n = 0;
     for (long tries = 0; l->n < CALLS && tries < 4000000; tries++) {
         uint8_t c[4];
-        random_call(c);
+        random_call_by_level(c);
         hv_outcome o = plain_query(&f, c[0], c[1], c[2], c[3]);
         if ((wanted == REFUSED && o.number == 0) || (wanted == ACCEPTED && o.number != 0)) continue;
         if (f.entered > 120 && c[0] == HV_CREATE && o.number == 0) continue;
@@ -450,13 +504,13 @@ int main(void)
     uint16_t index;
     if (!agree()) return 1;
     seed = 7;
-    setup_length = random_setup(setup_bytes, 15);
+    setup_length = random_setup(setup_bytes, 15, 0);
     plain_read_setup(&start, setup_bytes, setup_length, &index);
     start.mac = start.fc = start.sim = start.ff = 1;
     f = start;
     for (int k = 0; k < 300; k++) {
         uint8_t c[4];
-        random_call(c);
+        random_call_by_level(c);
         plain_enforce(&f, c[0], c[1], c[2], c[3]);
     }
     work *const queries[WORKS] = {proved_query_at, in_place_query, proved_query, by_value_query};

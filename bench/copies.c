@@ -69,6 +69,9 @@ int main(void)
     copies = 0;
     hv_flag_source(f, 1, HV_NO_EXECUTE);
     printf("copies\tsource of a flag\t%d\n", copies);
+    copies = 0;
+    hv_most_moves(f, 0);
+    printf("copies\tmost moves of a user\t%d\n", copies);
     for (size_t k = 0; k < sizeof calls / sizeof calls[0]; k++) {
         const uint8_t *c = calls[k].call;
         copies = 0;

@@ -117,7 +117,7 @@ def sections():
     copies = [line[1:] for line in lines("copies")]
     times, accepted, stack = programs.measured()
     return {
-        "agreement": "Measured on: %s. Agreement before it: %s random calls, %s accepted, none differs." % (machine(pinned, load), trials, taken),
+        "agreement": "Measured on: %s.\nAgreement before it: %s random calls, %s accepted, none differs." % (machine(pinned, load), trials, taken),
         "calls": table(["ns for each call", "where it is: proved", "plain C", "ratio", "million/s", "spread", "by value: proved", "plain C",
                         "ratio", "spread"], call_rows(calls)),
         "chains": table(["ns for each call, where it is", "no parent: proved", "plain C", "ratio", "below 127: proved", "plain C", "ratio",

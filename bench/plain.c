@@ -13,16 +13,27 @@ static const uint8_t classes[4][22] = {
 };
 
 /* What MAC does to the calling process. */
-struct move { uint8_t current, readmark, writemark, automatic, moves; };
+struct move { hv_label current, readmark, writemark; uint8_t automatic, moves; };
+
+static const hv_label bottom = {0, 0}, top = {15, HV_ALL_CATEGORIES};
 
 static inline uint8_t most(uint8_t a, uint8_t b) { return a < b ? b : a; }
 static inline uint8_t least(uint8_t a, uint8_t b) { return a < b ? a : b; }
 
-/* What R, W and B do to the current level: where it changes it has moved once more; at 255 the number stays. */
-static inline void move_to(struct move *m, uint8_t level)
+static inline int equal(hv_label a, hv_label b) { return a.level == b.level && a.set == b.set; }
+static inline int dominated(hv_label a, hv_label by) { return a.level <= by.level && (a.set & ~by.set) == 0; }
+static inline hv_label above_both(hv_label a, hv_label b) { return (hv_label){most(a.level, b.level), (uint8_t)(a.set | b.set)}; }
+static inline hv_label below_both(hv_label a, hv_label b) { return (hv_label){least(a.level, b.level), (uint8_t)(a.set & b.set)}; }
+
+static inline hv_label clearance_of(const hv_facility *f, uint8_t u) { return (hv_label){f->clearances[u], f->clearancesets[u]}; }
+static inline hv_label label_of(const hv_facility *f, uint8_t t) { return (hv_label){f->levels[t], f->sets[t]}; }
+static inline hv_label current_of(const hv_facility *f, uint8_t p) { return (hv_label){f->currents[p], f->currentsets[p]}; }
+
+/* What R, W and B do to the current label: where it changes it has moved once more; at 255 the number stays. */
+static inline void move_to(struct move *m, hv_label label)
 {
-    m->moves = (uint8_t)(m->moves + (level != m->current && m->moves != UINT8_MAX));
-    m->current = level;
+    m->moves = (uint8_t)(m->moves + (!equal(label, m->current) && m->moves != UINT8_MAX));
+    m->current = label;
 }
 
 static inline int needs_object(uint8_t request, uint8_t extra)
@@ -60,19 +71,27 @@ static inline uint8_t questions(const hv_facility *f, uint8_t request, uint8_t p
     return HV_ACCEPTED;
 }
 
-static inline uint8_t class_answer(uint8_t class, uint8_t level, uint8_t clearance, struct move *m)
+/* Whether a label is between the marks and under the clearance. */
+static inline int between(const struct move *m, hv_label label, hv_label clearance)
+{
+    return dominated(m->readmark, label) && dominated(label, m->writemark) && dominated(label, clearance);
+}
+
+static inline uint8_t class_answer(uint8_t class, hv_label label, hv_label clearance, struct move *m)
 {
     switch (class) {
-    case R:
-        if (level > m->current && !(m->automatic == 1 && level <= m->writemark && level <= clearance)) return HV_NOT_GRANTED;
-        move_to(m, most(m->current, level));
-        m->readmark = most(m->readmark, level);
+    case R: {
+        hv_label above = above_both(m->current, label);
+        if (!dominated(label, m->current) && !(m->automatic == 1 && dominated(above, m->writemark) && dominated(above, clearance))) return HV_NOT_GRANTED;
+        move_to(m, above);
+        m->readmark = above_both(m->readmark, label);
         return HV_GRANTED;
+    }
     case W: case B:
-        if (level != m->current && !(m->automatic == 1 && m->readmark <= level && level <= m->writemark && level <= clearance)) return HV_NOT_GRANTED;
-        move_to(m, level);
-        if (class == B) m->readmark = m->writemark = level;
-        else m->writemark = least(m->writemark, level);
+        if (!equal(label, m->current) && !(m->automatic == 1 && between(m, label, clearance))) return HV_NOT_GRANTED;
+        move_to(m, label);
+        if (class == B) m->readmark = m->writemark = label;
+        else m->writemark = below_both(m->writemark, label);
         return HV_GRANTED;
     default: return HV_GRANTED;
     }
@@ -80,23 +99,25 @@ static inline uint8_t class_answer(uint8_t class, uint8_t level, uint8_t clearan
 
 static inline uint8_t mac_answer(const hv_facility *f, uint8_t request, uint8_t p, uint8_t t, uint8_t e, struct move *m)
 {
-    uint8_t clearance = 0, trusted = 0;
+    hv_label clearance = bottom;
+    uint8_t trusted = 0;
     if (request == HV_LOGIN || request == HV_CLONE || request == HV_TERMINATE) return HV_GRANTED;
     if (f->owners[p] < HV_USERS) {
-        clearance = f->clearances[f->owners[p]];
+        clearance = clearance_of(f, f->owners[p]);
         trusted = f->trusts[f->owners[p]];
     }
     if (request == HV_SET_LEVEL) {
-        if (!(m->readmark <= e && e <= m->writemark && e <= clearance)) return HV_NOT_GRANTED;
-        m->current = e;
+        hv_label wanted = {e, t};
+        if (!between(m, wanted, clearance)) return HV_NOT_GRANTED;
+        m->current = wanted;
         m->automatic = 0;
         return HV_GRANTED;
     }
-    if (request == HV_SEND_SIGNAL) return trusted == 1 || f->currents[p] == f->currents[t] ? HV_GRANTED : HV_NOT_GRANTED;
+    if (request == HV_SEND_SIGNAL) return trusted == 1 || equal(m->current, current_of(f, t)) ? HV_GRANTED : HV_NOT_GRANTED;
     if (!needs_object(request, e)) return HV_GRANTED;
     if (f->levels[t] == HV_UNSET) return HV_UNDEFINED;
     if (trusted == 1) return HV_GRANTED;
-    return class_answer(classes[f->kinds[t]][request], f->levels[t], clearance, m);
+    return class_answer(classes[f->kinds[t]][request], label_of(f, t), clearance, m);
 }
 
 /* The own flags and, as long as an object has 128 and a live parent, those of the next one up, without no-delete. */
@@ -111,6 +132,14 @@ uint8_t plain_effective_flags(const hv_facility *f, uint8_t t)
         flags |= own & ~HV_NO_DELETE;
     }
     return flags;
+}
+
+uint32_t plain_most_moves(const hv_facility *f, uint8_t user)
+{
+    uint32_t moves = 1;
+    if (user >= HV_USERS) return moves;
+    for (uint8_t set = f->clearancesets[user]; set != 0; set &= (uint8_t)(set - 1)) moves++;
+    return moves + f->clearances[user];
 }
 
 uint8_t plain_flag_source(const hv_facility *f, uint8_t t, uint8_t flag)
@@ -140,7 +169,7 @@ static inline hv_outcome judge(const hv_facility *f, uint8_t request, uint8_t p,
 {
     hv_outcome o = {questions(f, request, p, t, e), HV_NOT_CARED, HV_NOT_CARED, HV_NOT_CARED, HV_NOT_CARED, HV_NO_OBJECT, HV_NOT_CARED};
     if (o.number != HV_ACCEPTED) return o;
-    *m = (struct move){f->currents[p], f->readmarks[p], f->writemarks[p], f->automatics[p], f->moves[p]};
+    *m = (struct move){current_of(f, p), {f->readmarks[p], f->readsets[p]}, {f->writemarks[p], f->writesets[p]}, f->automatics[p], f->moves[p]};
     if (f->mac == 1) o.mac = mac_answer(f, request, p, t, e, m);
     if (needs_object(request, e)) {
         uint8_t owner = f->owners[p], role = owner < HV_USERS ? f->roles[owner] : 0, category = f->categories[t];
@@ -173,11 +202,28 @@ static inline int trusted_owner(const hv_facility *f, uint8_t p)
 
 static void store(hv_facility *f, uint8_t p, const struct move *m)
 {
-    f->currents[p] = m->current;
-    f->readmarks[p] = m->readmark;
-    f->writemarks[p] = m->writemark;
+    f->currents[p] = m->current.level;
+    f->readmarks[p] = m->readmark.level;
+    f->writemarks[p] = m->writemark.level;
     f->automatics[p] = m->automatic;
     f->moves[p] = m->moves;
+    f->currentsets[p] = m->current.set;
+    f->readsets[p] = m->readmark.set;
+    f->writesets[p] = m->writemark.set;
+}
+
+/* The object that process p makes; t is the directory of a file or a directory. */
+static void create(hv_facility *f, uint8_t p, uint8_t t, uint8_t e)
+{
+    uint8_t n = f->entered++;
+    f->lives[n] = 1;
+    f->kinds[n] = e;
+    f->levels[n] = f->currents[p];
+    f->sets[n] = f->currentsets[p];
+    f->categories[n] = 0;
+    f->datatypes[n] = 0;
+    f->flags[n] = e < 2 ? HV_ADD_INHERITED : 0;
+    f->parents[n] = e < 2 ? t + 1 : 0;
 }
 
 static void act(hv_facility *f, uint8_t request, uint8_t p, uint8_t t, uint8_t e, const struct move *m)
@@ -187,7 +233,7 @@ static void act(hv_facility *f, uint8_t request, uint8_t p, uint8_t t, uint8_t e
     case HV_LOGIN:
         f->runnings[p] = 1;
         f->owners[p] = e;
-        store(f, p, &(struct move){0, 0, 15, 1, 0});
+        store(f, p, &(struct move){bottom, bottom, top, 1, 0});
         return;
     case HV_CLONE:
         f->runnings[t] = 1;
@@ -197,7 +243,7 @@ static void act(hv_facility *f, uint8_t request, uint8_t p, uint8_t t, uint8_t e
         return;
     case HV_TERMINATE:
         f->runnings[p] = f->owners[p] = 0;
-        store(f, p, &(struct move){0, 0, 0, 0, 0});
+        store(f, p, &(struct move){bottom, bottom, bottom, 0, 0});
         memset(row, 0, HV_OBJECTS);
         return;
     default:
@@ -209,22 +255,16 @@ static void act(hv_facility *f, uint8_t request, uint8_t p, uint8_t t, uint8_t e
     case HV_READ_WRITE_OPEN: row[t] |= HV_OPEN_READING | HV_OPEN_WRITING; return;
     case HV_CLOSE: row[t] = 0; return;
     case HV_SEND_SIGNAL:
-        if (f->mac == 1 && !trusted_owner(f, t)) f->readmarks[t] = f->currents[t];
+        if (f->mac == 1 && !trusted_owner(f, t)) {
+            f->readmarks[t] = f->currents[t];
+            f->readsets[t] = f->currentsets[t];
+        }
         return;
     case HV_DELETE:
         f->lives[t] = 0;
         for (int q = 0; q < HV_PROCESSES; q++) f->opens[q * HV_OBJECTS + t] = 0;
         return;
-    case HV_CREATE:
-        f->lives[f->entered] = 1;
-        f->kinds[f->entered] = e;
-        f->levels[f->entered] = f->currents[p];
-        f->categories[f->entered] = 0;
-        f->datatypes[f->entered] = 0;
-        f->flags[f->entered] = e < 2 ? HV_ADD_INHERITED : 0;
-        f->parents[f->entered] = e < 2 ? t + 1 : 0;
-        f->entered++;
-        return;
+    case HV_CREATE: create(f, p, t, e); return;
     }
 }
 
@@ -274,10 +314,40 @@ static uint8_t record_number(const hv_facility *f, const uint8_t *r, size_t i)
     if ((r[0] == 1 && f->users >= HV_USERS) || (r[0] == 2 && f->entered >= HV_OBJECTS)) return HV_SETUP_FULL;
     switch (r[0]) {
     case 3: return r[1] <= 1 && r[2] <= 1 && r[3] <= 1 && r[4] <= 1 && zeros(r, 5) ? 0 : HV_SETUP_BYTE;
-    case 1: return r[1] <= 15 && r[2] <= 2 && r[3] <= 1 && zeros(r, 4) ? 0 : HV_SETUP_BYTE;
+    case 1: return r[1] <= 15 && r[2] <= 2 && r[3] <= 1 && zeros(r, 5) ? 0 : HV_SETUP_BYTE;
     default:
-        if (r[1] > 3 || (r[2] > 15 && r[2] != HV_UNSET) || (r[3] > 2 && r[3] != HV_UNSET) || r[4] > 1 || (r[5] & 0x70) != 0 || r[7] != 0) return HV_SETUP_BYTE;
+        if (r[1] > 3 || (r[2] > 15 && r[2] != HV_UNSET) || (r[3] > 2 && r[3] != HV_UNSET) || r[4] > 1 || (r[5] & 0x70) != 0) return HV_SETUP_BYTE;
+        if (r[2] == HV_UNSET && r[7] != 0) return HV_SETUP_BYTE;
         return r[6] == 0 || (r[6] <= f->entered && f->kinds[r[6] - 1] == HV_DIRECTORY) ? 0 : HV_SETUP_PARENT;
+    }
+}
+
+static void enter(hv_facility *f, const uint8_t *r)
+{
+    switch (r[0]) {
+    case 3:
+        f->mac = r[1];
+        f->fc = r[2];
+        f->sim = r[3];
+        f->ff = r[4];
+        return;
+    case 1:
+        f->clearances[f->users] = r[1];
+        f->roles[f->users] = r[2];
+        f->trusts[f->users] = r[3];
+        f->clearancesets[f->users] = r[4];
+        f->users++;
+        return;
+    default:
+        f->lives[f->entered] = 1;
+        f->kinds[f->entered] = r[1];
+        f->levels[f->entered] = r[2];
+        f->categories[f->entered] = r[3];
+        f->datatypes[f->entered] = r[4];
+        f->flags[f->entered] = r[5];
+        f->parents[f->entered] = r[6];
+        f->sets[f->entered] = r[7];
+        f->entered++;
     }
 }
 
@@ -294,29 +364,7 @@ uint8_t plain_read_setup(hv_facility *f, const uint8_t *bytes, size_t length, ui
             *index = (uint16_t)i;
             return number;
         }
-        switch (r[0]) {
-        case 3:
-            f->mac = r[1];
-            f->fc = r[2];
-            f->sim = r[3];
-            f->ff = r[4];
-            break;
-        case 1:
-            f->clearances[f->users] = r[1];
-            f->roles[f->users] = r[2];
-            f->trusts[f->users] = r[3];
-            f->users++;
-            break;
-        default:
-            f->lives[f->entered] = 1;
-            f->kinds[f->entered] = r[1];
-            f->levels[f->entered] = r[2];
-            f->categories[f->entered] = r[3];
-            f->datatypes[f->entered] = r[4];
-            f->flags[f->entered] = r[5];
-            f->parents[f->entered] = r[6];
-            f->entered++;
-        }
+        enter(f, r);
     }
     return 0;
 }
@@ -329,11 +377,11 @@ size_t plain_write_setup(const hv_facility *f, uint8_t *out, size_t length)
         if (f->lives[t] == 1) renumbered[t + 1] = (uint8_t)++live;
     if (length < 8 + (f->users + live) * 8) return 0;
     memcpy(out, (uint8_t[8]){3, f->mac, f->fc, f->sim, f->ff}, 8);
-    for (int u = 0; u < f->users; u++, at += 8) memcpy(out + at, (uint8_t[8]){1, f->clearances[u], f->roles[u], f->trusts[u]}, 8);
+    for (int u = 0; u < f->users; u++, at += 8) memcpy(out + at, (uint8_t[8]){1, f->clearances[u], f->roles[u], f->trusts[u], f->clearancesets[u]}, 8);
     for (int t = 0; t < f->entered; t++)
         if (f->lives[t] == 1) {
             uint8_t parent = f->parents[t] <= HV_OBJECTS ? renumbered[f->parents[t]] : 0;
-            memcpy(out + at, (uint8_t[8]){2, f->kinds[t], f->levels[t], f->categories[t], f->datatypes[t], f->flags[t], parent}, 8);
+            memcpy(out + at, (uint8_t[8]){2, f->kinds[t], f->levels[t], f->categories[t], f->datatypes[t], f->flags[t], parent, f->sets[t]}, 8);
             at += 8;
         }
     return at;

@@ -10,6 +10,7 @@ hv_enforced plain_enforce_by_value(hv_facility f, uint8_t request, uint8_t proce
 hv_outcome plain_query_by_value(hv_facility f, uint8_t request, uint8_t process, uint8_t target, uint8_t extra);
 uint8_t plain_effective_flags(const hv_facility *f, uint8_t t);
 uint8_t plain_flag_source(const hv_facility *f, uint8_t t, uint8_t flag);
+uint32_t plain_most_moves(const hv_facility *f, uint8_t user);
 uint8_t plain_read_setup(hv_facility *f, const uint8_t *bytes, size_t length, uint16_t *index);
 size_t plain_write_setup(const hv_facility *f, uint8_t *out, size_t length);
 size_t plain_line(char *out, uint64_t index, const uint8_t call[4], const hv_facility *f, hv_outcome o);

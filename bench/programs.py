@@ -33,8 +33,12 @@ def setup(rng):
 
 
 def calls(rng, count):
-    """Mostly good numbers: few processes, few objects."""
-    return bytes(byte for _ in range(count) for byte in (rng.randrange(22), rng.randrange(4), rng.randrange(24), rng.randrange(4)))
+    """Mostly good numbers: few processes, few objects. Of set-level (17) t is the set, and the set-up has no categories."""
+    made = bytearray(byte for _ in range(count) for byte in (rng.randrange(22), rng.randrange(4), rng.randrange(24), rng.randrange(4)))
+    for k in range(0, len(made), 4):
+        if made[k] == 17:
+            made[k + 2] = 0
+    return bytes(made)
 
 
 def output(program, folder, data):

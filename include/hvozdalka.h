@@ -6,20 +6,25 @@
  * function allocates, keeps state of its own, or reads or writes anything but its arguments, so any of them may be called from several
  * threads at once.
  *
- * Two things are kept apart: a USER has a `clearance`, fixed by the set-up; a PROCESS has a `current` level, a read mark and a write
+ * Two things are kept apart: a USER has a `clearance`, fixed by the set-up; a PROCESS has a `current` label, a read mark and a write
  * mark, which move with its calls. So are an object's own flags, which it was entered with, and its effective ones, which it has from them
  * and from the directories above it.
  *
- * A process carries the number of moves that its current level made by itself: the changes of it by calls of class R, W or B that the process made
- * since its login. A clone begins with its parent's number. HV_SET_LEVEL and signals are no moves, nor is a refused call; with MAC off, or for a
- * trusted owner, there are none. After any calls from a fresh facility the number is at most the owner's clearance plus 1.
+ * Each of these, and what an object has, is a label: a level with a set of eight categories (hv_label). One label dominates another when its level
+ * is at least as high and its set contains the other's; of two labels neither need dominate the other. A label's categories are not an object's
+ * `category`, which is the one that FC looks at.
+ *
+ * A process carries the number of moves that its current label made by itself: the changes of it, of the level or of the set, by calls of class R, W
+ * or B that the process made since its login. A clone begins with its parent's number. HV_SET_LEVEL and signals are no moves, nor is a refused call;
+ * with MAC off, or for a trusted owner, there are none. After any calls from a fresh facility the number is at most that of hv_most_moves for its
+ * owner: the clearance's level plus its number of categories plus 1.
  *
  * A facility is a value: hv_enforce takes one and returns the next. hv_enforce_at changes one where it is, which is faster; it is proved
  * to do the same.
  *
  * With a signal (HV_SEND_SIGNAL) the desktop may send a value of four bytes, outside the call's bytes: only after enforce returned HV_ACCEPTED (a
  * query permits nothing), to process t of that call, once. After any other number nothing may be sent. The receiver then counts as having read what
- * the sender has: it holds the sender's matter, and with MAC on its read mark is its current level, unless its owner is trusted. What else passes
+ * the sender has: it holds the sender's matter, and with MAC on its read mark is its current label, unless its owner is trusted. What else passes
  * from one process to another is in no account here, so the desktop must not let it pass.
  *
  * Bytes are passed as a pointer and a length. With length 0 the pointer may be anything but null; `out` must not overlap other arguments.
@@ -64,7 +69,7 @@ enum hv_request {
     HV_READ_WRITE_OPEN = 14,
     HV_SEARCH = 15,
     HV_SEND_SIGNAL = 16,             /* t is the receiver, a process; four bytes may go with it once it is accepted (above) */
-    HV_SET_LEVEL = 17,               /* e is the level */
+    HV_SET_LEVEL = 17,               /* e is the level, t the set of the new label */
     HV_TERMINATE = 18,
     HV_WRITE = 19,
     HV_WRITE_OPEN = 20,
@@ -98,11 +103,14 @@ enum hv_number {
 /* Answers of the modules. */
 enum hv_answer { HV_NOT_CARED = 0, HV_GRANTED = 1, HV_NOT_GRANTED = 2, HV_UNDEFINED = 3 };
 
-/* Kinds of object; roles; how an object is open; the value of a level or a category that is not set. */
+/* Kinds of object; roles; how an object is open; the value of an object's level, or of its category for FC, that is not set. */
 enum hv_kind { HV_FILE = 0, HV_DIRECTORY = 1, HV_CHANNEL = 2, HV_CONTROL_DATA = 3 };
 enum hv_role { HV_GENERAL = 0, HV_SECURITY_OFFICER = 1, HV_SYSTEM_ADMINISTRATOR = 2 };
 enum hv_marks { HV_OPEN_READING = 1, HV_OPEN_WRITING = 2 };
 #define HV_UNSET 255
+
+/* The set of a label that has all eight categories. */
+#define HV_ALL_CATEGORIES 255
 
 /* Flags of an object, added up in a byte. */
 enum hv_flag {
@@ -116,23 +124,26 @@ enum hv_flag {
 /* No object was given. */
 #define HV_NO_OBJECT 255
 
-/* The whole state: switches, users, objects, processes, opens, the counters of refusals, flags and parents, and the processes' moves: 5,340 bytes.
- * Three bytes before `refusals` and three at the end are padding. */
+/* A level and a set of categories: bit 0 of the set is the first category, bit 7 the eighth. */
+typedef struct hv_label { uint8_t level, set; } hv_label;
+
+/* The whole state: switches, users, objects, processes, opens, the counters of refusals, flags and parents, the processes' moves, and the sets of
+ * all labels, whose levels stand before: 5,580 bytes. Three bytes before `refusals` and three at the end are padding. */
 typedef struct hv_facility {
     uint8_t mac, fc, sim;                       /* switches, each 0 or 1 */
     uint8_t users;                              /* how many users there are */
-    uint8_t clearances[HV_USERS];               /* by user number */
+    uint8_t clearances[HV_USERS];               /* by user number: the clearance's level */
     uint8_t roles[HV_USERS];
     uint8_t trusts[HV_USERS];
     uint8_t entered;                            /* how many objects were entered, deleted ones included */
     uint8_t lives[HV_OBJECTS];                  /* by object number */
     uint8_t kinds[HV_OBJECTS];
-    uint8_t levels[HV_OBJECTS];
-    uint8_t categories[HV_OBJECTS];
+    uint8_t levels[HV_OBJECTS];                 /* 0 to 15, or HV_UNSET */
+    uint8_t categories[HV_OBJECTS];             /* FC's, not of the label */
     uint8_t datatypes[HV_OBJECTS];
     uint8_t runnings[HV_PROCESSES];             /* by process number */
     uint8_t owners[HV_PROCESSES];
-    uint8_t currents[HV_PROCESSES];
+    uint8_t currents[HV_PROCESSES];             /* the levels of the three labels */
     uint8_t readmarks[HV_PROCESSES];
     uint8_t writemarks[HV_PROCESSES];
     uint8_t automatics[HV_PROCESSES];
@@ -141,7 +152,12 @@ typedef struct hv_facility {
     uint8_t ff;                                 /* the fourth switch, 0 or 1 */
     uint8_t flags[HV_OBJECTS];                  /* by object number: its own flags */
     uint8_t parents[HV_OBJECTS];                /* by object number: the parent directory's number plus 1, or 0 for none */
-    uint8_t moves[HV_PROCESSES];                /* by process number: the moves of its current level; at 255 it stays, which only bytes put in by C reach */
+    uint8_t moves[HV_PROCESSES];                /* by process number: the moves of its current label; at 255 it stays, which only bytes put in by C reach */
+    uint8_t clearancesets[HV_USERS];            /* by user number: the clearance's set */
+    uint8_t sets[HV_OBJECTS];                   /* by object number: its label's set, 0 where the level is unset */
+    uint8_t currentsets[HV_PROCESSES];          /* by process number: the sets of the three labels */
+    uint8_t readsets[HV_PROCESSES];
+    uint8_t writesets[HV_PROCESSES];
 } hv_facility;
 
 /* What a call came to: refusal number, answers of MAC, FC and SIM, the combination of all four modules' answers, the object that an accepted
@@ -153,9 +169,9 @@ typedef struct hv_reading { hv_facility facility; uint8_t number; uint16_t index
 typedef struct hv_writing { size_t length; uint8_t number; } hv_writing;
 typedef struct hv_printed { hv_facility facility; size_t length; } hv_printed;
 
-typedef struct hv_user_record { uint8_t clearance, role, trusted; } hv_user_record;
-typedef struct hv_process_record { uint8_t running, owner, current, readmark, writemark, automatic, moves; } hv_process_record;
-typedef struct hv_object_record { uint8_t live, kind, level, category, datatype, flags, parent; } hv_object_record;
+typedef struct hv_user_record { hv_label clearance; uint8_t role, trusted; } hv_user_record;
+typedef struct hv_process_record { uint8_t running, owner; hv_label current, readmark, writemark; uint8_t automatic, moves; } hv_process_record;
+typedef struct hv_object_record { uint8_t live, kind; hv_label label; uint8_t category, datatype, flags, parent; } hv_object_record;
 typedef struct hv_summary_record { uint8_t mac, fc, sim, users, entered, ff; } hv_summary_record;
 
 /* Reads a set-up. Number 0 and the fresh facility; or the number 14 to 17 or 19, the index of the record refused (0 with 14), and the facility
@@ -198,11 +214,15 @@ hv_printed hv_put_block(hv_facility f, uint64_t first, const uint8_t *calls, siz
 /* The same on a facility where it is, which becomes the facility after them; the padding stays. How many bytes the lines have. */
 size_t hv_put_block_at(hv_facility *f, uint64_t first, const uint8_t *calls, size_t calls_length, uint8_t *out, size_t out_length);
 
-/* A user, a process, an object; all fields are 0 for a number that is none. A process's `moves` is how often its current level moved by itself, at
- * most its owner's clearance plus 1 after any calls from a fresh facility. [userOf, processOf, objectOf, state/State] */
+/* A user, a process, an object; all fields are 0 for a number that is none. A process's `moves` is how often its current label moved by itself, at
+ * most hv_most_moves of its owner after any calls from a fresh facility. [userOf, processOf, objectOf, state/State] */
 hv_user_record hv_user(hv_facility f, uint8_t user);
 hv_process_record hv_process(hv_facility f, uint8_t process);
 hv_object_record hv_object(hv_facility f, uint8_t object);
+
+/* How often the current label of a process of that user moves by itself at most: the level of the user's clearance plus its number of categories
+ * plus 1; 1 for a number that is none. [movesBound, rules/Histories, of clearanceOf, state/State] */
+uint32_t hv_most_moves(hv_facility f, uint8_t user);
 
 /* The effective flags of object t, whether FF is on or off: its own and, with HV_ADD_INHERITED among these, the effective ones of its parent
  * without no-delete, where the parent is not deleted; 0 for a number above 127. [effective, rules/FileFlags] */

@@ -12,7 +12,7 @@ import vectors
 import words
 from model import (CLONE, CLOSE, CREATE, DELETE, EXECUTE, LOGIN, READ, READ_OPEN,
                    READ_WRITE_OPEN, SEND_SIGNAL, SET_LEVEL, TERMINATE,
-                   WRITE, WRITE_OPEN)
+                   WRITE, WRITE_OPEN, Label)
 
 passed = 0
 
@@ -27,12 +27,12 @@ def switches(mac, fc, sim, ff=0):
     return bytes([3, mac, fc, sim, ff, 0, 0, 0])
 
 
-def user(clearance, role=0, trusted=0):
-    return bytes([1, clearance, role, trusted, 0, 0, 0, 0])
+def user(clearance, role=0, trusted=0, categories=0):
+    return bytes([1, clearance, role, trusted, categories, 0, 0, 0])
 
 
-def thing(kind, level, category=0, data_type=0, flags=0, parent=0):
-    return bytes([2, kind, level, category, data_type, flags, parent, 0])
+def thing(kind, level, category=0, data_type=0, flags=0, parent=0, categories=0):
+    return bytes([2, kind, level, category, data_type, flags, parent, categories])
 
 
 def after(setup, *calls):
@@ -172,9 +172,9 @@ check(refusal(SMALL[:16] + user(16) + user(0) + switches(0, 0, 0)), (17, 2),
       "the earlier record first")
 ALLOWED = {
     0: [(0, 1), (0, 1), (0, 1), (0, 1), (0,), (0,), (0,)],
-    1: [range(16), (0, 1, 2), (0, 1), (0,), (0,), (0,), (0,)],
+    1: [range(16), (0, 1, 2), (0, 1), range(256), (0,), (0,), (0,)],
     3: [range(4), list(range(16)) + [255], (0, 1, 2, 255), (0, 1),
-        list(range(16)) + list(range(128, 144)), (0,), (0,)],
+        list(range(16)) + list(range(128, 144)), (0,), range(256)],
 }
 for index, fields in ALLOWED.items():
     for place, allowed in enumerate(fields):
@@ -192,13 +192,13 @@ rng = random.Random(0)
 for _ in range(200):
     setup = switches(*(rng.randrange(2) for _ in range(4)))
     for _ in range(rng.randrange(17)):
-        setup += user(rng.randrange(16), rng.randrange(3), rng.randrange(2))
+        setup += user(rng.randrange(16), rng.randrange(3), rng.randrange(2), rng.choice((0, rng.randrange(256))))
     directories = []
     for number in range(rng.choice((0, 5, 128))):
         kind = rng.randrange(4)
-        setup += thing(kind, rng.choice(list(range(16)) + [255]),
-                       rng.choice((0, 1, 2, 255)), rng.randrange(2),
-                       rng.randrange(16) + rng.choice((0, 128)), rng.choice([0] + directories))
+        level = rng.choice(list(range(16)) + [255])
+        setup += thing(kind, level, rng.choice((0, 1, 2, 255)), rng.randrange(2),
+                       rng.randrange(16) + rng.choice((0, 128)), rng.choice([0] + directories), 0 if level == 255 else rng.randrange(256))
         directories += [number + 1] if kind == 1 else []
     number, _, facility = model.read_setup(setup)
     check((number, model.setup_bytes(facility)), (0, setup), "round trip")
@@ -234,7 +234,7 @@ facility = after(MIXED, IN)
 check(tuple(model.enforce(facility, (READ_OPEN, 0, 0, 0))), (12, 1, 2, 0, 2, 255, 0),
       "MAC's yes, FC's no")
 check((facility.processes[0].current, facility.processes[0].read_mark,
-       facility.refusals), (0, 0, [1] + [0] * 15), "no move, one refusal")
+       facility.refusals), (Label(0), Label(0), [1] + [0] * 15), "no move, one refusal")
 facility.refusals = [4294967294] * 16
 model.enforce(facility, (READ_OPEN, 0, 0, 0))
 check(facility.refusals, [4294967295] + [4294967294] * 15, "counter")
@@ -263,7 +263,7 @@ for _ in range(1500):
 facility = after(FILES, *(READ_2 + [(TERMINATE, 0, 0, 0), IN]))
 check((facility.processes[0].current, facility.processes[0].read_mark,
        facility.processes[0].write_mark, facility.processes[0].automatic,
-       facility.processes[0].open_reading), (0, 0, 15, True, set()),
+       facility.processes[0].open_reading), (Label(0), Label(0), Label(15, 255), True, set()),
       "nothing is kept after terminate")
 PAIR = [IN, (LOGIN, 1, 0, 0)]
 check(answers(FILES, PAIR, (SEND_SIGNAL, 0, 1, 0)), YES, "signal, equal")
@@ -329,7 +329,7 @@ for request, p, t, e, number in ((22, 0, 0, 0, 1), (5, 32, 0, 0, 2), (5, 1, 0, 0
 # a refusal by FF moves nothing and is counted
 facility = after(switches(1, 0, 0, 1) + user(5) + thing(0, 4, 0, 0, NX), IN)
 check(tuple(model.enforce(facility, (EXECUTE, 0, 0, 0))), (12, 1, 0, 0, 2, 255, 2), "MAC's yes, FF's no")
-check((facility.processes[0].current, facility.refusals), (0, [1] + [0] * 15), "FF's no: no move, one refusal")
+check((facility.processes[0].current, facility.refusals), (Label(0), [1] + [0] * 15), "FF's no: no move, one refusal")
 # the chain ends at an object without 128
 CHAIN = FF_ON + thing(1, 0, 0, 0, NX + ND) + thing(1, 0, 0, 0, SO, 1) + thing(1, 0, 0, 0, ADD + ND, 2) + thing(0, 0, 0, 0, ADD, 3)
 check(effective(CHAIN), [NX + ND, SO, ADD + ND + SO, ADD + SO], "a chain that an object without 128 ends")
@@ -373,7 +373,7 @@ for value in range(256):
     check(refusal(KINDS + thing(0, 0, 0, 0, value, 1)), (19, 6) if flags == (0, 0) else flags, "19 after 17 on the same record")
 check(refusal(KINDS + thing(0, 0, 0, 0, 0, 1) + thing(9, 0)), (19, 6), "19 before a later 17")
 check(refusal(KINDS + thing(9, 0) + thing(0, 0, 0, 0, 0, 1)), (17, 6), "17 before a later 19")
-check(refusal(KINDS + thing(0, 0, 0, 0, 0, 1)[:7] + b"\1"), (17, 6), "byte 7 before the parent")
+check(refusal(KINDS + thing(0, 255, 0, 0, 0, 1, 1)), (17, 6), "a set with an unset level before the parent")
 check(refusal(FF_ON + thing(1, 0) * 128 + thing(0, 0, 0, 0, 0, 255)), (16, 130), "16 before 19")
 check(refusal(KINDS + b"\4" + thing(0, 0, 0, 0, 0, 255)[1:]), (15, 6), "15 before 19")
 check(model.read_setup(switches(0, 0, 0, 1))[2].ff_on, True, "the fourth switch")
@@ -394,10 +394,10 @@ for _ in range(150):
     check(model.setup_bytes(model.read_setup(again)[2]), again, "written again")
 # in words
 check(words.tell(FF_ON + thing(1, 0, 0, 0, RO + ND) + thing(0, 255, 0, 0, ADD + NX, 1), bytes([21, 0, 0, 0, 20, 0, 1, 0]))[1],
-      "2 process 0 (user 0, clearance 9, current 0, marks 0 to 15, moved 0 times of at most 10): "
+      "2 process 0 (user 0, clearance 9, current 0, marks 0 to 15 all, moved 0 times of at most 10): "
       "write-open object 1 (file, level unset, read-only, no-execute, add-inherited): "
       "MAC not cared, FC not cared, SIM not cared, FF not granted by read-only of object 0, combined not granted: 12 not granted; "
-      "then user 0, clearance 9, current 0, marks 0 to 15, moved 0 times of at most 10; refusals of user 0: 1", "FF in words")
+      "then user 0, clearance 9, current 0, marks 0 to 15 all, moved 0 times of at most 10; refusals of user 0: 1", "FF in words")
 check(words.tell(KINDS + thing(0, 0, 0, 0, 0, 1), b""), ["set-up refused at record 6: 19 parent is no earlier directory"], "19 in words")
 
 # --- Matter ---------------------------------------------------------------
@@ -441,9 +441,16 @@ def follow(setup, *calls):
     return numbers, facility, account
 
 
-def levels(facility, p):
+def labels(facility, p):
     process = facility.processes[p]
     return process.current, process.read_mark, process.write_mark, process.automatic
+
+
+def levels(facility, p):
+    """Of a list without sets: the first write mark has all eight, one that was written has none."""
+    current, read, write, automatic = labels(facility, p)
+    assert current.set == read.set == 0 and write.set == (255 if write.level == 15 else 0), (current, read, write)
+    return current.level, read.level, write.level, automatic
 
 
 def has_read(p, level, owner=0):
@@ -526,8 +533,8 @@ for case in range(2 * 2 * 2 * 3 * 3 * 3 * 2):
         continue
     _, facility, _ = follow(SIGNALS, (LOGIN, 0, 0, p_trusted), (LOGIN, 1, 0, t_trusted))
     facility.mac_on = bool(mac)
-    facility.processes[0].current = p_current
-    facility.processes[1].current, facility.processes[1].read_mark = t_current, mark
+    facility.processes[0].current = Label(p_current)
+    facility.processes[1].current, facility.processes[1].read_mark = Label(t_current), Label(mark)
     sender, trusted = (1, t_trusted) if itself else (0, p_trusted)
     granted = trusted or itself or p_current == t_current
     raised = granted and mac and not t_trusted
@@ -560,6 +567,11 @@ def held_pairs(account):
     return {(x, c) for x, held in enumerate(account.object_sets) for c in held if c != x}
 
 
+def leaks(facility, account):
+    """Who holds what is of a label that its own does not dominate."""
+    return [(x, c) for x, c in held_pairs(account) if not facility.objects[x].label.dominates(facility.objects[c].label)]
+
+
 # Demand 3's first half: lists rich in signals, no trusted login; what an object holds is of no higher level.
 by_signals = 0
 for _ in range(60):
@@ -567,18 +579,17 @@ for _ in range(60):
     caller = vectors.Caller(rng, setup)
     caller.go_with_signals(150)
     _, facility, account = follow(setup, *caller.calls)
-    levels_of = [obj.level for obj in facility.objects]
-    check([pair for pair in held_pairs(account) if levels_of[pair[1]] > levels_of[pair[0]]], [], "only when its level is at least the other's")
+    check(leaks(facility, account), [], "only when its level is at least the other's")
     without = follow(setup, *(call for call in caller.calls if call[0] != SEND_SIGNAL))[2]
     by_signals += len(held_pairs(account) - held_pairs(without))
 assert by_signals > 50, by_signals
 
 # in words
 TOLD = b"".join(map(bytes, [*READ_AND_SENT, (SEND_SIGNAL, 1, 0, 0), (SEND_SIGNAL, 0, 2, 0), (SEND_SIGNAL, 0, 200, 0), (SET_LEVEL, 1, 0, 3), SIGNAL]))
-SENDER = "user 0, clearance 15, current 2, marks 2 to 15, moved 1 times of at most 16"
+SENDER = "user 0, clearance 15, current 2, marks 2 to 15 all, moved 1 times of at most 16"
 STILL = "moved 0 times of at most 16"
-SET_TO_2, RAISED = ("user 0, clearance 15, current 2, marks %d to 15, %s" % (mark, STILL) for mark in (0, 2))
-SET_TO_3 = "user 0, clearance 15, current 3, marks 2 to 15, " + STILL
+SET_TO_2, RAISED = ("user 0, clearance 15, current 2, marks %d to 15 all, %s" % (mark, STILL) for mark in (0, 2))
+SET_TO_3 = "user 0, clearance 15, current 3, marks 2 to 15 all, " + STILL
 SENT = "MAC granted, FC not cared, SIM not cared, FF not cared, combined granted: 0 accepted"
 ASIDE = "MAC not cared, FC not cared, SIM not cared, FF not cared, combined not cared: "
 check(words.tell(SIGNALS, TOLD)[5:9] + words.tell(SIGNALS, TOLD)[10:],
@@ -595,8 +606,8 @@ check(words.tell(SIGNALS, TOLD[:20] + bytes([SEND_SIGNAL, 1, 1, 0]))[5],
       "6 process 1 (%s): send-signal process 1 (%s): %s; then %s; process 1 then %s" % (SET_TO_2, SET_TO_2, SENT, RAISED, RAISED),
       "a signal to itself in words")
 check(words.tell(SIGNALS, bytes([LOGIN, 0, 0, 0, CLONE, 0, 5, 0]))[1],
-      "2 process 0 (user 0, clearance 15, current 0, marks 0 to 15, %s): clone process 5: %s; then user 0, clearance 15, current 0, marks 0 to 15, %s" % (
-          STILL, SENT, STILL), "clone in words")
+      "2 process 0 (user 0, clearance 15, current 0, marks 0 to 15 all, %s): clone process 5: %s; "
+      "then user 0, clearance 15, current 0, marks 0 to 15 all, %s" % (STILL, SENT, STILL), "clone in words")
 
 # --- Ticket 5: how often a level moves --------------------------------------
 
@@ -608,11 +619,16 @@ STATUS, CONTROLS = 9, 12
 BY_CLASS = {"R": {0: (7, 13), 1: (12, 15), 3: (8, 9)}, "W": {0: (5, 6, 20), 1: (4, 5, 19), 2: (0, 5), 3: (1, 5, 10, 11)}, "B": {0: (14,), 2: (14,)}}
 
 
+def bound(clearance):
+    """"clearance level plus its number of categories plus 1", counted here by itself"""
+    return clearance.level + bin(clearance.set).count("1") + 1
+
+
 def agrees(facility, history):
-    """The number of each process that runs is that of its history, and at most its owner's clearance plus 1."""
+    """The number of each process that runs is that of its history, and at most what the ticket says of its owner's clearance."""
     running = [p for p, process in enumerate(facility.processes) if process]
     check([facility.processes[p].moves for p in running], [history.moves(p) for p in running], "moves and history")
-    check([p for p in running if facility.processes[p].moves > facility.users[facility.processes[p].owner].clearance + 1], [], "at most clearance plus 1")
+    check([p for p in running if facility.processes[p].moves > bound(facility.users[facility.processes[p].owner].clearance)], [], "at most the bound")
 
 
 def trace(setup, *calls):
@@ -689,10 +705,16 @@ for clearance in range(16):
             check(moves(every, *calls), (True, [most]), "the bound of clearance %d" % clearance)
             more = [(request, 0, level, 0) for request in (READ_OPEN, WRITE_OPEN, READ_WRITE_OPEN) for level in range(16)]
             check(moves(every, *calls, *more)[1], [most], "the level has settled")
+def written(level):
+    """The write mark of that level in a list without sets."""
+    return Label(level, 255 if level == 15 else 0)
+
+
 # every state of a process: how many moves lead to it at most, for each clearance
 for clearance in range(6):
     setup = switches(1, 0, 0) + user(clearance) + b"".join(thing(0, level) for level in range(clearance + 2))
-    tried = [(request, 0, level, level) for request in (READ_OPEN, WRITE_OPEN, READ_WRITE_OPEN, SET_LEVEL) for level in range(clearance + 2)]
+    tried = [(request, 0, level, 0) for request in (READ_OPEN, WRITE_OPEN, READ_WRITE_OPEN) for level in range(clearance + 2)]
+    tried += [(SET_LEVEL, 0, 0, level) for level in range(clearance + 2)]
     found = {(0, 0, 15, True): 0}
     rest = list(found)
     while rest:
@@ -700,7 +722,7 @@ for clearance in range(6):
         for call in tried + [(SEND_SIGNAL, 0, 0, 0)]:
             facility = after(setup, IN)
             process = facility.processes[0]
-            process.current, process.read_mark, process.write_mark, process.automatic = state
+            process.current, process.read_mark, process.write_mark, process.automatic = (*map(Label, state[:2], (0, 0)), written(state[2]), state[3])
             process.moves = found[state]
             assert process.moves < 100, "no end of moves"
             model.enforce(facility, call)
@@ -725,18 +747,263 @@ for case in range(60):
     _, facility = trace(setup, *caller.calls)
     cloned = {call[2] for call in caller.calls if call[0] == CLONE}
     for p, process in enumerate(facility.processes):
-        if process and process.moves == facility.users[process.owner].clearance + 1:
+        if process and process.moves == bound(facility.users[process.owner].clearance):
             at_bound += 1
             clones_at_bound += p in cloned
 assert at_bound > 20 and clones_at_bound > 5, (at_bound, clones_at_bound)
 # in words
 SAID = [IN, (STATUS, 0, CONTROLS + 1, 0), (STATUS, 0, CONTROLS + 1, 0), (SET_LEVEL, 0, 0, 2)]
 TOLD = words.tell(MOVING, b"".join(map(bytes, SAID)))
-MARKS = ("user 0, clearance 3, current 0, marks 0 to 15, moved 0 times of at most 4",
-         "user 0, clearance 3, current 1, marks 1 to 15, moved 1 times of at most 4",
-         "user 0, clearance 3, current 2, marks 1 to 15, moved 1 times of at most 4")
+MARKS = ("user 0, clearance 3, current 0, marks 0 to 15 all, moved 0 times of at most 4",
+         "user 0, clearance 3, current 1, marks 1 to 15 all, moved 1 times of at most 4",
+         "user 0, clearance 3, current 2, marks 1 to 15 all, moved 1 times of at most 4")
 check(TOLD, ["1 process 0 (not running): login user 0: %s; then %s" % (SENT, MARKS[0])]
       + ["%d process 0 (%s): get-status-data object 13 (control data, level 1): %s; then %s" % (n, MARKS[n - 2], SENT, MARKS[1]) for n in (2, 3)]
       + ["4 process 0 (%s): set-level level 2: %s; then %s" % (MARKS[1], SENT, MARKS[2])], "moves in words")
+
+# --- Ticket 6: project categories -------------------------------------------
+
+IN_A, IN_B, IN_H = 1, 2, 128
+SETS = (0, IN_A, IN_B, IN_A | IN_B, IN_H, IN_A | IN_H, IN_B | IN_H, IN_A | IN_B | IN_H)
+
+
+def parts(label):
+    """Level and set as Python has it, for what the ticket says, said once more without the model's labels."""
+    return label.level, frozenset(n for n in range(8) if label.set >> n & 1)
+
+
+def under(x, y):
+    return x[0] <= y[0] and x[1] <= y[1]
+
+
+def joined(x, y):
+    return max(x[0], y[0]), x[1] | y[1]
+
+
+def shared(x, y):
+    return min(x[0], y[0]), x[1] & y[1]
+
+
+# "One label dominates another when its level is at least as high and its set contains the other's"; the least above both, the greatest below both
+LATTICE = [Label(level, held) for level in (0, 1, 15) for held in SETS]
+for x in LATTICE:
+    for y in LATTICE:
+        check(x.dominates(y), under(parts(y), parts(x)), "dominance")
+        check((x == y, x != y), (parts(x) == parts(y), parts(x) != parts(y)), "both parts must be equal")
+        over, below = x.least_above(y), x.greatest_below(y)
+        check([z for z in LATTICE if z.dominates(x) and z.dominates(y)], [z for z in LATTICE if z.dominates(over)], "the least label above both")
+        check([z for z in LATTICE if x.dominates(z) and y.dominates(z)], [z for z in LATTICE if below.dominates(z)], "the greatest label below both")
+        check((over in LATTICE, below in LATTICE), (True, True), "least and greatest")
+
+# "User byte 4 is the clearance's set, object byte 7 the object's set, which must be 0 where the level is unset"
+for held in range(256):
+    for level in (0, 7, 15, 255):
+        for kind in range(4):
+            setup = switches(1, 0, 0) + user(7, 0, 0, held) + thing(kind, level, 0, 0, 0, 0, held)
+            check(refusal(setup), (0, 0) if held == 0 or level != 255 else (17, 2), "a set, level %d" % level)
+            if held == 0 or level != 255:
+                facility = after(setup)
+                check((facility.users[0].clearance, facility.objects[0].label), (Label(7, held), Label(level, held)), "sets are read")
+                check(model.setup_bytes(facility), setup, "sets are written")
+check(refusal(switches(1, 0, 0) + thing(0, 255, 0, 0, 0, 9, 1)), (17, 1), "17 for a set before 19 for a parent")
+check(refusal(switches(1, 0, 0) + thing(0, 255, 0, 0, 0, 9, 0)), (19, 1), "a parent of an object whose level is unset")
+
+# Users: 0 of clearance 3 with a and b, 1 the same and trusted, 2 of clearance 3 with a alone, 3 of clearance 3 with none. Objects of levels 0 to 3 and
+# the sets none, a, b and both: of each kind one.
+PROJECTS = (user(3, 0, 0, IN_A | IN_B) + user(3, 0, 1, IN_A | IN_B) + user(3, 0, 0, IN_A) + user(3)
+            + b"".join(thing(kind, level, 0, 0, 0, 0, held) for kind in range(4) for level in range(4) for held in range(4)))
+YARD = switches(1, 0, 0) + PROJECTS
+A1, B1, AB1 = (Label(1, held) for held in (IN_A, IN_B, IN_A | IN_B))
+START, WHOLE = Label(0), Label(15, 255)
+
+
+def number_of(kind, label):
+    return 16 * kind + 4 * label.level + label.set
+
+
+def call_on(request, label, kind=0, p=0):
+    return request, p, number_of(kind, label), 0
+
+
+def labels_after(*calls):
+    """Whether each call is accepted, and the labels of process 0 after them."""
+    numbers, facility, _ = follow(YARD, *calls)
+    return not any(numbers), labels(facility, 0)
+
+
+check(labels_after(IN), (True, (START, START, WHOLE, True)), "the first write mark is 15 with all eight")
+# R: without a move under current; else to the least label above both
+READ_A = [IN, call_on(READ_OPEN, A1)]
+READ_BOTH = [*READ_A, call_on(READ_OPEN, B1)]
+check(labels_after(*READ_A), (True, (A1, A1, WHOLE, True)), "read of a")
+check(labels_after(*READ_BOTH), (True, (AB1, AB1, WHOLE, True)), "a, then b: both")
+check(labels_after(*READ_BOTH, *(call_on(READ_OPEN, Label(level, held)) for level in (0, 1) for held in range(4))), (True, (AB1, AB1, WHOLE, True)),
+      "under current nothing moves")
+check(labels_after(*READ_A, call_on(READ_OPEN, Label(2, IN_B))), (True, (Label(2, 3), Label(2, 3), WHOLE, True)), "level of the one, sets of both")
+check(labels_after(*READ_A, call_on(READ_OPEN, Label(0, IN_B))), (True, (AB1, AB1, WHOLE, True)), "a lower level with another set")
+check(moves(YARD, *READ_BOTH, call_on(READ_OPEN, AB1)), (True, [2]), "a move of the set is a move")
+# R: the least label above both stays under clearance and write mark
+IN_2, IN_3 = (LOGIN, 0, 0, 2), (LOGIN, 0, 0, 3)
+check(answers(YARD, [IN_2, call_on(READ_OPEN, A1)], call_on(READ_OPEN, B1)), NO, "a category outside the clearance")
+check(answers(YARD, [IN_3], call_on(READ_OPEN, Label(0, IN_A))), NO, "a clearance without a category")
+check(answers(YARD, [IN_3], call_on(READ_OPEN, Label(3))), YES, "a clearance's level")
+WROTE_A = [IN, call_on(WRITE_OPEN, Label(2, IN_A))]
+check(labels_after(*WROTE_A), (True, (Label(2, IN_A), START, Label(2, IN_A), True)), "a write, and the write mark")
+for label, answer in ((Label(0), YES), (Label(2, IN_A), YES), (Label(0, IN_B), NO), (Label(2, 3), NO), (Label(3), NO)):
+    check(answers(YARD, WROTE_A, call_on(READ_OPEN, label)), answer, "a read under the write mark")
+# W: L is current, or between read mark and write mark, and under the clearance
+for label, answer in ((Label(1), NO), (Label(3), NO), (Label(1, IN_B), NO), (Label(3, IN_B), NO), (Label(0, IN_A), NO), (A1, YES), (AB1, YES),
+                      (Label(3, IN_A), YES)):
+    for kind, request in ((0, WRITE_OPEN), (0, READ_WRITE_OPEN), (2, READ_WRITE_OPEN), (1, WRITE), (3, 10)):
+        check(answers(YARD, READ_A, call_on(request, label, kind)), answer, "a write after a read of a")
+check(answers(YARD, [IN_2], call_on(WRITE_OPEN, AB1)), NO, "a write outside the clearance's set")
+check(answers(YARD, [IN_2, (SET_LEVEL, 0, IN_A, 1)], call_on(WRITE_OPEN, A1)), YES, "a write at the current label, automatic off")
+for label in (Label(1), B1, AB1, Label(0, IN_A)):
+    check(answers(YARD, [IN, (SET_LEVEL, 0, IN_A, 1)], call_on(WRITE_OPEN, label)), NO, "a write at another label, automatic off")
+check(labels_after(IN, call_on(WRITE_OPEN, Label(3, 3)), call_on(WRITE_OPEN, Label(3, IN_A)), call_on(WRITE_OPEN, A1)), (True, (A1, START, A1, True)),
+      "writes down, set and level")
+check(labels_after(*READ_A, call_on(READ_WRITE_OPEN, Label(2, 3))), (True, (Label(2, 3), Label(2, 3), Label(2, 3), True)), "B: both marks")
+check(labels_after(IN, call_on(WRITE_OPEN, AB1), call_on(READ_WRITE_OPEN, B1)), (True, (B1, B1, B1, True)), "B below the write mark")
+# "Set-level takes the new set from t"; reading 22
+check(labels_after(IN, (SET_LEVEL, 0, IN_B, 2)), (True, (Label(2, IN_B), START, WHOLE, False)), "set-level")
+for t in range(256):
+    for e in (0, 1, 3, 4, 15):
+        check(answers(YARD, [IN], (SET_LEVEL, 0, t, e)), YES if t | 3 == 3 and e <= 3 else NO, "set-level, set %d" % t)
+        check(answers(YARD, [(LOGIN, 0, 0, 1)], (SET_LEVEL, 0, t, e)), YES if t | 3 == 3 and e <= 3 else NO, "a trusted owner's set-level, set %d" % t)
+        check(answers(YARD, READ_A, (SET_LEVEL, 0, t, e))[0], 0 if t in (1, 3) and 1 <= e <= 3 else 12, "set-level above the read mark, set %d" % t)
+        check(answers(YARD, WROTE_A, (SET_LEVEL, 0, t, e))[0], 0 if t in (0, 1) and e <= 2 else 12, "set-level under the write mark, set %d" % t)
+    check(answers(YARD, [IN], (SET_LEVEL, 0, t, 16)), (11, 0), "only e is asked for 11")
+    check(answers(switches(0, 0, 0) + PROJECTS, [IN], (SET_LEVEL, 0, t, 15)), (0, 0), "set-level with MAC off")
+# "where two had to be equal, signals included, both parts must be"
+for p_label in LATTICE[:16]:
+    for t_label in LATTICE[:16]:
+        facility = after(YARD, IN, (LOGIN, 1, 0, 0))
+        facility.processes[0].current, facility.processes[1].current = p_label, t_label
+        number = model.enforce(facility, SIGNAL).number
+        check((number, labels(facility, 0), labels(facility, 1)),
+              (0 if parts(p_label) == parts(t_label) else 12, (p_label, START, WHOLE, True), (t_label, t_label if number == 0 else START, WHOLE, True)),
+              "a signal between labels")
+AT_A = [IN, (SET_LEVEL, 0, IN_A, 1), (LOGIN, 1, 0, 0)]
+check(answers(YARD, [*AT_A, (SET_LEVEL, 1, IN_B, 1)], SIGNAL), NO, "a signal between a and b at one level")
+check(answers(YARD, [*AT_A, (SET_LEVEL, 1, IN_A | IN_B, 1)], SIGNAL), NO, "a signal upward in the set")
+check(answers(YARD, [*AT_A, (SET_LEVEL, 1, IN_A, 1), SIGNAL], (SET_LEVEL, 1, 0, 1)), NO, "a receiver's mark has the set")
+check(answers(YARD, [*AT_A, (SET_LEVEL, 1, IN_A, 1)], (SET_LEVEL, 1, 0, 1)), YES, "without the signal")
+check(labels(after(YARD, (LOGIN, 0, 0, 1), (LOGIN, 1, 0, 0), (SET_LEVEL, 1, IN_B, 2), SIGNAL), 1), (Label(2, IN_B), Label(2, IN_B), WHOLE, False),
+      "a trusted sender, and the mark is the receiver's label")
+# a created object has the current label after the move; a clone has all labels
+for e in range(4):
+    facility = after(YARD, *READ_BOTH, (CREATE, 0, number_of(1, Label(2, 3)), e))
+    check(facility.objects[-1].label, Label(2, 3) if e < 2 else AB1, "created, kind %d" % e)
+    check(model.setup_bytes(facility)[-8:], thing(e, 2 if e < 2 else 1, 0, 0, ADD if e < 2 else 0, 1 + number_of(1, Label(2, 3)) if e < 2 else 0, 3),
+          "a created object's set is written")
+facility = after(YARD, *READ_A, call_on(WRITE_OPEN, AB1), (CLONE, 0, 9, 0))
+check((labels(facility, 9), labels(facility, 0)), ((AB1, A1, AB1, True), (AB1, A1, AB1, True)), "a clone has all labels")
+check(labels(after(YARD, *READ_BOTH, (TERMINATE, 0, 0, 0), IN), 0), (START, START, WHOLE, True), "a login after terminate")
+# a trusted owner, MAC off: no label moves
+for owner, setup in ((1, YARD), (0, switches(0, 0, 0) + PROJECTS)):
+    for label in (A1, Label(3, 3), Label(0, IN_B)):
+        for request in (READ_OPEN, WRITE_OPEN, READ_WRITE_OPEN):
+            check(labels(after(setup, (LOGIN, 0, 0, owner), call_on(request, label)), 0), (START, START, WHOLE, True), "no label moves")
+# "The run program prints the level alone."
+check(run.run(YARD, b"".join(map(bytes, [*READ_BOTH, (SET_LEVEL, 0, 3, 2), call_on(READ_OPEN, Label(3, 3)), (SET_LEVEL, 0, 7, 2)])))[0],
+      ["1 21 0 0 0 0 1 0", "2 13 0 5 0 0 1 1", "3 13 0 6 0 0 1 1", "4 17 0 3 2 0 1 2", "5 13 0 15 0 12 2 2", "6 17 0 7 2 12 2 2"], "the level alone")
+
+
+def by_the_ticket(letter, state, automatic, clearance, label):
+    """What R, W, B and set-level come to, by the ticket's words: the state after it, or None."""
+    current, read, write = state
+    if letter == "R":
+        above = joined(current, label)
+        granted = under(label, current) or (automatic and under(above, write) and under(above, clearance))
+        return (above, joined(read, label), write) if granted else None
+    between = under(read, label) and under(label, write) and under(label, clearance)
+    if letter == "set-level":
+        return (label, read, write) if between else None
+    if not (label == current or (automatic and between)):
+        return None
+    return (label, label, label) if letter == "B" else (label, read, shared(write, label))
+
+
+# any labels of a process, also those that no list of calls gives, any clearance, any object
+for case in range(6000):
+    few = rng.choice(((0, 1, 2, 3), SETS, range(256)))
+    state, clearance, label = [Label(rng.randrange(3), rng.choice(few)) for _ in range(3)], Label(rng.randrange(4), rng.choice(few)), Label(
+        rng.randrange(3), rng.choice(few))
+    letter = "R" if case % 4 == 0 else "WB"[case % 2] if case % 4 < 3 else "set-level"
+    state[2] = rng.choice((WHOLE, state[2], state[0].least_above(state[2])))
+    facility = after(switches(1, 0, 0) + user(clearance.level, 0, 0, clearance.set) + thing(0, label.level, 0, 0, 0, 0, label.set), IN)
+    process = facility.processes[0]
+    process.current, process.read_mark, process.write_mark = state
+    process.automatic = rng.random() < 0.7
+    wanted = by_the_ticket(letter, [parts(x) for x in state], process.automatic, parts(clearance), parts(label))
+    call = (SET_LEVEL, 0, label.set, label.level) if letter == "set-level" else ({"R": READ_OPEN, "W": WRITE_OPEN, "B": READ_WRITE_OPEN}[letter], 0, 0, 0)
+    number = model.enforce(facility, call).number
+    given = tuple(parts(x) for x in labels(facility, 0)[:3])
+    check((number, given), (12, tuple(parts(x) for x in state)) if wanted is None else (0, wanted), "%s by the ticket" % letter)
+    check(facility.processes[0].moves, int(wanted is not None and letter != "set-level" and wanted[0] != parts(state[0])), "moves of %s" % letter)
+
+# Demand 3 over labels: what is read goes where its label is dominated, straight or, of a channel, by a signal
+for x in LATTICE[:16]:
+    for y in LATTICE[:16]:
+        for kind, writing in WRITES.items():
+            pair = switches(1, 0, 0) + user(1, 0, 0, 131) + thing(0, x.level, 0, 0, 0, 0, x.set) + thing(kind, y.level, 0, 0, 0, 0, y.set)
+            calls = [IN, (READ_OPEN, 0, 0, 0), (READ, 0, 0, 0)] + [(request, 0, 1, 0) for request in writing]
+            numbers, _, account = follow(pair, *calls)
+            check((any(numbers), account.object_holds(1, 0)), (not under(parts(x), parts(y)), under(parts(x), parts(y))), "what is read, written")
+        pair = switches(1, 0, 0) + user(1, 0, 0, 131) + thing(2, x.level, 0, 0, 0, 0, x.set) + thing(0, y.level, 0, 0, 0, 0, y.set)
+        carried = [(LOGIN, 1, 0, 0), (SET_LEVEL, 1, x.set, x.level), IN, (READ_WRITE_OPEN, 0, 0, 0), (READ, 0, 0, 0), SIGNAL,
+                   (SET_LEVEL, 1, y.set, y.level), (WRITE_OPEN, 1, 1, 0), (WRITE, 1, 1, 0)]
+        numbers, _, account = follow(pair, *carried)
+        check((numbers[5], account.object_holds(1, 0)), (0, under(parts(x), parts(y))), "a channel's matter by a signal, over labels")
+# random lists with categories: no object comes to hold what is of a label that its own does not dominate
+carried_on = 0
+for case in range(80):
+    some = rng.choice(((0, 1, 2, 3), (0, 0, 1, 2), SETS))
+    setup = switches(1, 0, 0, rng.randrange(2)) + user(3, 0, 0, 131) + user(2, 0, 0, rng.choice(some)) + b"".join(
+        thing(kind, rng.randrange(3), 0, 0, 0, 0, rng.choice(some)) for kind in (0, 0, 0, 0, 1, 1, 2, 2, 3, 3))
+    caller = vectors.Caller(rng, setup)
+    (caller.go_with_signals if case % 2 else caller.go_with_moves)(120)
+    _, facility, account = follow(setup, *caller.calls)
+    check(leaks(facility, account), [], "only where its label dominates the other's")
+    carried_on += sum(facility.objects[x].label.set != facility.objects[c].label.set for x, c in held_pairs(account))
+assert carried_on > 100, carried_on
+
+# "The bound on moves becomes clearance level plus its number of categories plus 1"
+check([model.most_moves(after(switches(0, 0, 0) + b"".join(user(n % 16, 0, 0, held) for n, held in enumerate((0, 1, 128, 3, 131, 255)))), n)
+       for n in range(8)], [1, 3, 4, 6, 8, 14, 1, 1], "the bound, and of no user")
+for level, held in ((0, 1), (0, 3), (1, 1), (1, 3), (2, 2), (2, 3)):
+    objects = [Label(n, x) for n in range(level + 2) for x in (0, 1, 2, 3)]
+    setup = switches(1, 0, 0) + user(level, 0, 0, held) + b"".join(thing(0, x.level, 0, 0, 0, 0, x.set) for x in objects)
+    tried = [(request, 0, n, 0) for request in (READ_OPEN, WRITE_OPEN, READ_WRITE_OPEN) for n in range(len(objects))] + [(SEND_SIGNAL, 0, 0, 0)]
+    tried += [(SET_LEVEL, 0, x.set, x.level) for x in objects]
+    found = {(START, START, WHOLE, True): 0}
+    rest = list(found)
+    while rest:
+        state = rest.pop()
+        for call in tried:
+            facility = after(setup, IN)
+            process = facility.processes[0]
+            process.current, process.read_mark, process.write_mark, process.automatic = state
+            process.moves = found[state]
+            assert process.moves < 100, "no end of moves"
+            model.enforce(facility, call)
+            if found.get(labels(facility, 0), -1) < facility.processes[0].moves:
+                found[labels(facility, 0)] = facility.processes[0].moves
+                rest.append(labels(facility, 0))
+    check(max(found.values()), bound(Label(level, held)), "most moves of every state, level %d, set %d" % (level, held))
+
+# in words
+TOLD = words.tell(YARD, b"".join(map(bytes, [*READ_BOTH, (SET_LEVEL, 0, 131, 2), (SET_LEVEL, 0, 255, 16), (SET_LEVEL, 0, 3, 2)])))
+MARKS = ("user 0, clearance 3 ab, current 0, marks 0 to 15 all, moved 0 times of at most 6",
+         "user 0, clearance 3 ab, current 1 a, marks 1 a to 15 all, moved 1 times of at most 6",
+         "user 0, clearance 3 ab, current 1 ab, marks 1 ab to 15 all, moved 2 times of at most 6",
+         "user 0, clearance 3 ab, current 2 ab, marks 1 ab to 15 all, moved 2 times of at most 6")
+REFUSED = "MAC not granted, FC not cared, SIM not cared, FF not cared, combined not granted: 12 not granted"
+check(TOLD, ["1 process 0 (not running): login user 0: %s; then %s" % (SENT, MARKS[0]),
+             "2 process 0 (%s): read-open object 5 (file, level 1 a): %s; then %s" % (MARKS[0], SENT, MARKS[1]),
+             "3 process 0 (%s): read-open object 6 (file, level 1 b): %s; then %s" % (MARKS[1], SENT, MARKS[2]),
+             "4 process 0 (%s): set-level level 2 abh: %s; then %s; refusals of user 0: 1" % (MARKS[2], REFUSED, MARKS[2]),
+             "5 process 0 (%s): set-level level 16 all: %s11 no such level; then %s" % (MARKS[2], ASIDE, MARKS[2]),
+             "6 process 0 (%s): set-level level 2 ab: %s; then %s" % (MARKS[2], SENT, MARKS[3])], "labels in words")
 
 print("model: %d checks passed" % passed)

@@ -1,10 +1,11 @@
 """Draws a run as an SVG: python3 -B model/draw.py SETUP_FILE [FIRST] < CALLS > PICTURE.svg
 
-One lane for each process that runs: its current level as a line, with the band from read mark to write mark, over the calls. A call is
-marked in the lane of the process that made it: a dot where it was accepted, a cross with its number where it was refused. A move, a change
-of the current level by R, W or B, is marked on the level's line, with the number of moves that the process then has made. From an accepted
-signal a dashed line goes to the receiver, whose read mark it may have raised. All calls are made, and those from FIRST on are drawn, with the
-processes that make them, receive their signals, or are changed by them.
+One lane for each process that runs: its current level as a line, with the band from read mark to write mark, over the calls. Where the set of
+the current label is not empty its letters stand above the line, and those of the read mark below the band. A call is marked in the lane of the
+process that made it: a dot where it was accepted, a cross with its number where it was refused. A move, a change of the current label by R, W
+or B, is marked on the level's line, with the number of moves that the process then has made. From an accepted signal a dashed line goes to the
+receiver, whose read mark it may have raised. All calls are made, and those from FIRST on are drawn, with the processes that make them, receive
+their signals, or are changed by them.
 """
 
 import sys
@@ -14,13 +15,14 @@ import model
 import run
 import words
 
-STEP, LANE, GAP, LEFT, TOP = 46, 112, 34, 150, 48
+STEP, LANE, GAP, LEFT, TOP = 46, 112, 34, 176, 48
 RIGHT, BOTTOM = 24, 46
-LEGEND = 970                  # the width that it needs
+LEGEND = 1000                 # the width that it needs
+LETTERS = 340                 # and what its part on letters adds
 
 
 def states(facility):
-    """Owner, current level, marks and moves of each process that runs."""
+    """Owner, current label, marks and moves of each process that runs."""
     return {p: (r.owner, r.current, r.read_mark, r.write_mark, r.moves) for p, r in enumerate(facility.processes) if r is not None}
 
 
@@ -48,8 +50,9 @@ class Picture:
         changed = {p for state in self.seen for p in {*state, *begun} if state.get(p) != begun.get(p)}
         self.lanes = sorted(callers | receivers | changed)
         shown = [state[p] for state in self.seen for p in self.lanes if p in state]
-        levels = [level for _, current, read, write, _ in shown for level in (current, read, write if write < 15 else 0)]
-        self.top = max(levels + clearances + [1]) + 1
+        levels = [label.level for _, current, read, write, _ in shown for label in (current, read, write) if label is not write or write.level < 15]
+        self.top = max(levels + [clearance.level for clearance in clearances] + [1]) + 1
+        self.lettered = any(label.set for state in shown for label in state[1:3])
         self.parts = []
 
     def x(self, k):
@@ -65,7 +68,7 @@ class Picture:
         self.parts.append(part % values)
 
     def draw(self):
-        width = max(self.x(len(self.made)) + RIGHT + STEP, LEGEND)
+        width = max(self.x(len(self.made)) + RIGHT + STEP, LEGEND + LETTERS * self.lettered)
         height = TOP + len(self.lanes) * (LANE + GAP) + BOTTOM
         self.add('<svg xmlns="http://www.w3.org/2000/svg" width="%d" height="%d" viewBox="0 0 %d %d" font-family="sans-serif" font-size="12">',
                  width, height, width, height)
@@ -76,6 +79,7 @@ class Picture:
             self.bands(p)
             self.current(p)
             self.moves(p)
+            self.letters(p)
         for k, (call, number, text) in enumerate(self.made):
             self.call(k, call, number, text)
         self.add('</svg>')
@@ -90,6 +94,10 @@ class Picture:
                  LEFT + 445, LEFT + 462)
         self.add('<path d="M%d 12v12" stroke="#e07b00" stroke-width="7"/><text x="%d" y="22">move, with the number so far</text></g>',
                  LEFT + 622, LEFT + 632)
+        if self.lettered:
+            self.add('<text x="%d" y="22" fill="#15467a" font-weight="bold">ab</text><text x="%d" y="22" fill="#333">categories of the current label</text>'
+                     '<text x="%d" y="22" fill="#5b86b5" font-size="10">ab</text><text x="%d" y="22" fill="#333">of the read mark</text>',
+                     LEFT + 822, LEFT + 842, LEFT + 1030, LEFT + 1046)
 
     def frame(self, p):
         y, end = self.lane(p), self.x(len(self.made)) + STEP
@@ -99,7 +107,7 @@ class Picture:
             if p in state and state[p][0] not in owners:
                 owners.append(state[p][0])
         for n, owner in enumerate(owners):
-            self.add('<text x="12" y="%d" fill="#555">user %d, clearance %d</text>', y + 34 + 15 * n, owner, self.clearances[owner])
+            self.add('<text x="12" y="%d" fill="#555">user %d, clearance %s</text>', y + 34 + 15 * n, owner, words.label_words(self.clearances[owner]))
         for level in range(self.top + 1):
             at = self.y(p, level)
             self.add('<path d="M%d %.1fH%d" stroke="#e4e4e4"/>', LEFT, at, end)
@@ -119,27 +127,40 @@ class Picture:
 
     def bands(self, p):
         for first, last, (_, _, read, write, _) in self.spans(p):
-            low, high = self.y(p, read), self.y(p, write)
+            low, high = self.y(p, read.level), self.y(p, write.level)
             self.add('<rect x="%.1f" y="%.1f" width="%.1f" height="%.1f" fill="#cfe0f3"/>', self.x(first - 0.5) + STEP / 2, high - 3,
                      (last - first) * STEP, low - high + 6)
 
     def current(self, p):
         path, previous = "", None
-        for first, last, (_, level, _, _, _) in self.spans(p):
+        for first, last, (_, label, _, _, _) in self.spans(p):
             join = "L" if previous == first else "M"
-            path += "%s%.1f %.1fH%.1f" % (join, self.x(first), self.y(p, level), self.x(last))
+            path += "%s%.1f %.1fH%.1f" % (join, self.x(first), self.y(p, label.level), self.x(last))
             previous = last
         self.add('<path d="%s" fill="none" stroke="#15467a" stroke-width="3"/>', path)
 
+    def letters(self, p):
+        """Where a set that is not empty begins: of the current label above the line, of the read mark below the band."""
+        ended, held = None, (0, 0)
+        for first, last, (_, current, read, _, _) in self.spans(p):
+            held = held if first == ended else (0, 0)
+            for label, before, dx, dy, style in ((current, held[0], 7, -7, 'fill="#15467a" font-weight="bold"'),
+                                                 (read, held[1], 20, 14, 'fill="#5b86b5" font-size="10"')):
+                if label.set and label.set != before:
+                    text = words.label_words(label).split(" ")[1]
+                    self.add('<text x="%.1f" y="%.1f" %s>%s</text>', self.x(first) + dx, self.y(p, label.level) + dy, style, text)
+            ended, held = last, (current.set, read.set)
+
     def moves(self, p):
-        """On the line from the level before to the one after: changes of it by a call of p that is no set-level."""
+        """On the line from the level before to the one after: changes of the label by a call of p that is no set-level."""
         for k, (call, _, _) in enumerate(self.made):
             before, after = self.seen[k].get(p), self.seen[k + 1].get(p)
             if call[1] == p and call[0] != model.SET_LEVEL and before and after and before[1] != after[1]:
-                low, high = sorted((self.y(p, before[1]), self.y(p, after[1])))
-                self.add('<path d="M%.1f %.1fV%.1f" stroke="#e07b00" stroke-width="7"/>', self.x(k + 1), low, high)
-                self.add('<text x="%.1f" y="%.1f" fill="#b35f00" font-size="12" font-weight="bold">%d</text>', self.x(k + 1) + 7, (low + high) / 2 + 4,
-                         after[4])
+                low, high = sorted((self.y(p, before[1].level), self.y(p, after[1].level)))
+                aside = 9 if low == high else 0      # of the set alone: a mark across the line, its number below
+                self.add('<path d="M%.1f %.1fV%.1f" stroke="#e07b00" stroke-width="7"/>', self.x(k + 1), low - aside, high + aside)
+                self.add('<text x="%.1f" y="%.1f" fill="#b35f00" font-size="12" font-weight="bold">%d</text>', self.x(k + 1) + 7,
+                         (low + high) / 2 + 4 + aside, after[4])
 
     def call(self, k, call, number, text):
         at = self.x(k + 1)
@@ -148,11 +169,11 @@ class Picture:
         if p >= model.PROCESSES:
             return
         after, before = self.seen[k + 1].get(p), self.seen[k].get(p)
-        level = (after or before or (0, 0))[1]
-        y = self.y(p, level)
+        label = (after or before or (0, model.BOTTOM))[1]
+        y = self.y(p, label.level)
         self.add('<g><title>%d: %s: %d %s</title>', k + self.first, escape(text), number, escape(words.NUMBERS[number]))
         if number == 0 and call[0] == model.SEND_SIGNAL:
-            self.add('<path d="M%.1f %.1fV%.1f" stroke="#15467a" stroke-dasharray="4 3"/>', at, y, self.y(call[2], self.seen[k + 1][call[2]][2]))
+            self.add('<path d="M%.1f %.1fV%.1f" stroke="#15467a" stroke-dasharray="4 3"/>', at, y, self.y(call[2], self.seen[k + 1][call[2]][2].level))
         if number == 0:
             self.add('<circle cx="%.1f" cy="%.1f" r="5" fill="#15467a"/>', at, y)
         else:

@@ -1,9 +1,10 @@
 """Compares the run program, and the run in words, with the model: python3 -B model/fuzz.py SEED CALLS
 
 Fresh set-ups and lists of calls from the seed, until CALLS calls were made: those of vectors.py, among them set-ups full of parents, with
-chains as deep as 127 directories, creates at every depth and deleted directories, and lists rich in signals, between windows at one level
+chains as deep as 127 directories, creates at every depth and deleted directories, and lists rich in signals, between windows at one label
 and at others, of trusted owners too, to itself, with what channels hold carried on, and lists rich in moves, whose processes go up by reads
-and down by writes as often as they may, with clones; the same with set-ups and calls damaged, cut short or made longer, and lists of random
+and down by writes as often as they may, with clones, and lists rich in labels of which neither dominates the other; most set-ups have
+categories, some none. The same with set-ups and calls damaged, cut short or made longer, and lists of random
 bytes. Of every list the number of moves that the model's processes carry is held against their history and their bound. The programs are
 target/bin/run and target/bin/run_words (`rt check run run_words` builds them). Then the hostile inputs: no `setup.bin`, a folder of that
 name, one that is empty, cut, too long or unreadable, no calls, and an output that nobody reads. Ends with the number of comparisons, or at
@@ -27,6 +28,7 @@ RUN = os.path.abspath(os.path.join(ROOT, "target", "bin", "run"))
 TREES = 0.25                  # the share of set-ups full of parents
 SIGNALS = 0.25                # the share of lists rich in signals
 MOVES = 0.2                   # the share of lists rich in moves
+LABELS = 0.1                  # the share of lists rich in labels
 WORDS = os.path.abspath(os.path.join(ROOT, "target", "bin", "run_words"))
 
 
@@ -86,6 +88,8 @@ def one_case(rng):
         return vectors.signal_case(rng, rng.randrange(48))
     if chance < TREES + SIGNALS + MOVES:
         return vectors.move_case(rng, rng.randrange(48))
+    if chance < TREES + SIGNALS + MOVES + LABELS:
+        return vectors.label_case(rng, rng.randrange(48))
     return vectors.some_case(rng)
 
 
@@ -147,22 +151,21 @@ def hostile(folder):
 def main():
     seed, most = int(sys.argv[1]), int(sys.argv[2])
     rng = random.Random(seed)
-    begun, made, compared, told, signals, moved, at_bound = time.time(), 0, 0, 0, 0, 0, 0
+    begun, made, compared, told, signals, counts = time.time(), 0, 0, 0, 0, [0] * 5
     folder = tempfile.mkdtemp(prefix="fuzz-")
     for setup, calls in cases(rng):
         in_words = rng.random() < 0.2
         signals += compare(folder, setup, calls, in_words)
-        of_list = moves.of_list(setup, calls)
-        moved += of_list[0]
-        at_bound += of_list[1]
+        counts = [sum(pair) for pair in zip(counts, moves.of_list(setup, calls))]
         compared += 1
         told += in_words
         made += len(calls) // 4
         if made >= most:
             break
     tries = hostile(folder)
-    print("seed %d: %d calls in %d lists, %d of them in words too, %d signals accepted, %d moves, %d lists at the bound, %d hostile inputs; "
-          "none differs; %.0f s" % (seed, made, compared, told, signals, moved, at_bound, tries, time.time() - begun))
+    print("seed %d: %d calls in %d lists, %d lists in words too, %d signals accepted, %d calls with categories in the set-up, %d moves, "
+          "%d of them of the set, %d lists at the bound, %d of them with categories, %d hostile inputs; none differs; %.0f s" % (
+              seed, made, compared, told, signals, *counts, tries, time.time() - begun))
 
 
 if __name__ == "__main__":

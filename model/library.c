@@ -3,10 +3,13 @@
  * number in two, then pairs of object numbers behind their number in one byte; all low byte first. Before a call of request 254 C puts marks of an
  * open object into the facility: the low two bits of e, for process p and object t, where p runs and t is live. Before a call of request 253 it puts
  * in levels of process p, where it runs: the current level from the low four bits of e, the read mark from the high ones, the write mark from the
- * low four of t; of request 252 the number of moves of process p, where it runs: t. Standard output: of each set-up its number and the record's
- * index in two bytes; of each call of an accepted one the outcome's seven bytes, the sixteen counters, the moves of each process, the calling
- * process's record, the target's record as a process, its record as an object, its effective flags, and for each flag the object that it comes from;
- * then the set-up written out after the calls, behind its length in two bytes; then for each length of a buffer number and length in two bytes, and
+ * low four of t; of request 252 the number of moves of process p, where it runs: t; of request 251 the set t for process p, where it runs, as that of
+ * its current label, read mark and write mark, each where the first, second or third bit of e is set; of request 250 the set e for object t, where it
+ * is live and its level is set; of request 249 the set t for the clearance of user p. Standard output: of each set-up its number and the record's
+ * index in two bytes; of each call of an accepted one the outcome's seven bytes, the sixteen counters, for each user how often a process of it moves
+ * at most, the same for number e in four bytes, for each process its moves and its three labels, the calling process's record, the target's record as
+ * a process, its record as an object, its effective flags, and for each flag the object that it comes from; then the set-up written out after the
+ * calls, behind its length in two bytes; then for each length of a buffer number and length in two bytes, and
  * the buffer, whose bytes were 165, with eight bytes behind it; then for each pair whether the first holds the matter of the second after the calls.
  * Each call is made by value and where the facility is, and each set-up written out; a difference between the two ends the program with status 1, a
  * set-up written out that is not read back as it is with status 3. */
@@ -43,38 +46,76 @@ static void put_words(const uint32_t *words, int n)
     for (int k = 0; k < n; k++) put((uint8_t[4]){words[k] & 255, words[k] >> 8 & 255, words[k] >> 16 & 255, words[k] >> 24}, 4);
 }
 
+/* All of a facility but its padding. */
 static int same(const hv_facility *a, const hv_facility *b)
 {
-    return memcmp(a, b, offsetof(hv_facility, opens) + sizeof a->opens) == 0 && memcmp(a->refusals, b->refusals, sizeof a->refusals) == 0
-        && a->ff == b->ff && memcmp(a->flags, b->flags, sizeof a->flags) == 0 && memcmp(a->parents, b->parents, sizeof a->parents) == 0
-        && memcmp(a->moves, b->moves, sizeof a->moves) == 0;
+    enum { PAD = offsetof(hv_facility, opens) + HV_PROCESSES * HV_OBJECTS, PAD_END = offsetof(hv_facility, refusals) };
+    enum { TAIL = offsetof(hv_facility, writesets) + HV_PROCESSES };
+    return memcmp(a, b, PAD) == 0 && memcmp((const uint8_t *)a + PAD_END, (const uint8_t *)b + PAD_END, TAIL - PAD_END) == 0;
 }
 
 static void put_process(hv_facility f, uint8_t process)
 {
     hv_process_record p = hv_process(f, process);
-    put((uint8_t[7]){p.running, p.owner, p.current, p.readmark, p.writemark, p.automatic, p.moves}, 7);
+    put((uint8_t[10]){p.running, p.owner, p.current.level, p.current.set, p.readmark.level, p.readmark.set, p.writemark.level, p.writemark.set,
+                      p.automatic, p.moves}, 10);
 }
 
 static void put_object(hv_facility f, uint8_t t)
 {
     hv_object_record o = hv_object(f, t);
-    put((uint8_t[7]){o.live, o.kind, o.level, o.category, o.datatype, o.flags, o.parent}, 7);
+    put((uint8_t[8]){o.live, o.kind, o.label.level, o.label.set, o.category, o.datatype, o.flags, o.parent}, 8);
     put((uint8_t[1]){hv_effective_flags(f, t)}, 1);
     put((uint8_t[5]){hv_flag_source(f, t, HV_READ_ONLY), hv_flag_source(f, t, HV_NO_EXECUTE), hv_flag_source(f, t, HV_NO_DELETE),
                      hv_flag_source(f, t, HV_SEARCH_ONLY), hv_flag_source(f, t, HV_ADD_INHERITED)}, 5);
 }
 
-static void one_call(hv_facility *f, const uint8_t *c)
+/* The moves of each process and its labels: as the library reads them by value and as they are in the bytes, after both ways to enforce. */
+static void put_labels(const hv_facility *f, const hv_facility *by_value)
 {
-    if (c[0] == 254 && c[1] < HV_PROCESSES && c[2] < HV_OBJECTS && f->runnings[c[1]] == 1 && f->lives[c[2]] == 1)
-        f->opens[c[1] * HV_OBJECTS + c[2]] = c[3] & 3;
-    if (c[0] == 253 && c[1] < HV_PROCESSES && f->runnings[c[1]] == 1) {
+    for (uint8_t p = 0; p < HV_PROCESSES; p++) {
+        hv_process_record r = hv_process(*f, p), v = hv_process(*by_value, p);
+        uint8_t given[7] = {r.moves, r.current.level, r.current.set, r.readmark.level, r.readmark.set, r.writemark.level, r.writemark.set};
+        uint8_t held[7] = {f->moves[p], f->currents[p], f->currentsets[p], f->readmarks[p], f->readsets[p], f->writemarks[p], f->writesets[p]};
+        if (memcmp(given, held, sizeof given) != 0 || memcmp(&r, &v, sizeof r) != 0) exit(1);
+        put(given, sizeof given);
+    }
+}
+
+/* How often a process of each user moves at most, and of any number. */
+static void put_most_moves(const hv_facility *f, uint8_t number)
+{
+    for (uint8_t u = 0; u < HV_USERS; u++) {
+        uint32_t most = hv_most_moves(*f, u);
+        if (most > 255) exit(1);
+        put((uint8_t[1]){(uint8_t)most}, 1);
+    }
+    put_words((uint32_t[1]){hv_most_moves(*f, number)}, 1);
+}
+
+/* What C puts into the facility before a call of a request that is none. */
+static void put_in(hv_facility *f, const uint8_t *c)
+{
+    int runs = c[1] < HV_PROCESSES && f->runnings[c[1]] == 1, live = c[2] < HV_OBJECTS && f->lives[c[2]] == 1;
+    if (c[0] == 254 && runs && live) f->opens[c[1] * HV_OBJECTS + c[2]] = c[3] & 3;
+    if (c[0] == 253 && runs) {
         f->currents[c[1]] = c[3] & 15;
         f->readmarks[c[1]] = c[3] >> 4;
         f->writemarks[c[1]] = c[2] & 15;
     }
-    if (c[0] == 252 && c[1] < HV_PROCESSES && f->runnings[c[1]] == 1) f->moves[c[1]] = c[2];
+    if (c[0] == 252 && runs) f->moves[c[1]] = c[2];
+    if (c[0] == 251 && runs) {
+        if (c[3] & 1) f->currentsets[c[1]] = c[2];
+        if (c[3] & 2) f->readsets[c[1]] = c[2];
+        if (c[3] & 4) f->writesets[c[1]] = c[2];
+    }
+    if (c[0] == 250 && live && f->levels[c[2]] != HV_UNSET) f->sets[c[2]] = c[3];
+    if (c[0] == 249 && c[1] < f->users) f->clearancesets[c[1]] = c[2];
+}
+
+static void one_call(hv_facility *f, const uint8_t *c)
+{
+    put_in(f, c);
     hv_outcome q = hv_query_at(f, c[0], c[1], c[2], c[3]);
     hv_enforced e = hv_enforce(*f, c[0], c[1], c[2], c[3]);
     hv_outcome o = hv_enforce_at(f, c[0], c[1], c[2], c[3]);
@@ -83,11 +124,8 @@ static void one_call(hv_facility *f, const uint8_t *c)
     for (uint8_t u = 0; u < HV_USERS; u++) refusals[u] = hv_refusals(*f, u);
     put((uint8_t[7]){o.number, o.mac, o.fc, o.sim, o.combined, o.object, o.ff}, 7);
     put_words(refusals, HV_USERS);
-    for (uint8_t p = 0; p < HV_PROCESSES; p++) {
-        uint8_t moves = hv_process(*f, p).moves;
-        if (moves != f->moves[p] || moves != hv_process(e.facility, p).moves) exit(1);
-        put(&moves, 1);
-    }
+    put_most_moves(f, c[3]);
+    put_labels(f, &e.facility);
     put_process(*f, c[1]);
     put_process(*f, c[2]);
     put_object(*f, c[2]);

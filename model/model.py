@@ -13,7 +13,7 @@ MAX_USERS, MAX_OBJECTS = 16, 128
 MAX_SETUP = 1160
 UNSET = 255
 FILE, DIRECTORY, CHANNEL, CONTROL = 0, 1, 2, 3
-GENERAL, SECURITY, SYSTEM = 0, 1, 2          # categories, and roles by number
+GENERAL, SECURITY, SYSTEM = 0, 1, 2          # FC's categories of an object, and roles by number
 OFFICER = 1                                  # role: security officer
 NO_TYPE, SECURITY_INFORMATION = 0, 1         # data types
 READ_ONLY, NO_EXECUTE, NO_DELETE, SEARCH_ONLY, ADD_INHERITED = 1, 2, 4, 8, 128
@@ -23,6 +23,7 @@ FLAGS = (READ_ONLY, NO_EXECUTE, NO_DELETE, SEARCH_ONLY, ADD_INHERITED)
 
 PROCESSES = 32
 TOP_LEVEL = 15
+ALL_CATEGORIES = 255                         # the set of all eight categories of a label, a bit for each
 COUNTER_STOP = 4294967295
 MOVES_STOP = 255                             # a byte; no list of calls from a fresh facility comes near it
 NO_OBJECT = 255                              # what all but an accepted create return
@@ -48,18 +49,55 @@ CLASSES = {
 NOT_CARED, GRANTED, NOT_GRANTED, UNDEFINED = 0, 1, 2, 3
 
 
+class Label:
+    """Ticket 6: "a level with a set of eight categories", the set as a byte. Two
+    labels are compared by dominance and equality only: `<` is not defined."""
+
+    __slots__ = ("level", "set")
+
+    def __init__(self, level, categories=0):
+        self.level = level
+        self.set = categories
+
+    def dominates(self, other):
+        """"its level is at least as high and its set contains the other's"."""
+        return self.level >= other.level and self.set & other.set == other.set
+
+    def least_above(self, other):
+        """"the least label above both"."""
+        return Label(max(self.level, other.level), self.set | other.set)
+
+    def greatest_below(self, other):
+        """"the greatest below both"."""
+        return Label(min(self.level, other.level), self.set & other.set)
+
+    def __eq__(self, other):
+        """"both parts must be"."""
+        return isinstance(other, Label) and (self.level, self.set) == (other.level, other.set)
+
+    def __hash__(self):
+        return hash((self.level, self.set))
+
+    def __repr__(self):
+        return "Label(%d, %d)" % (self.level, self.set)
+
+
+BOTTOM = Label(0)
+TOP = Label(TOP_LEVEL, ALL_CATEGORIES)       # "the first write mark is 15 with all eight"
+
+
 class User:
     def __init__(self, clearance, role, trusted):
-        self.clearance = clearance
+        self.clearance = clearance           # a Label
         self.role = role
         self.trusted = trusted
 
 
 class Object:
-    def __init__(self, kind, level, category, data_type, flags=0, parent=None):
+    def __init__(self, kind, label, category, data_type, flags=0, parent=None):
         self.kind = kind
-        self.level = level
-        self.category = category
+        self.label = label                   # its level may be UNSET, with the empty set
+        self.category = category             # FC's, not of the label
         self.data_type = data_type
         self.flags = flags                   # its own ones
         self.parent = parent                 # an object number, also of a deleted one, or None
@@ -67,24 +105,25 @@ class Object:
 
 
 class Process:
-    """State: "Login: current 0, read mark 0, write mark 15, automatic on"."""
+    """State: "Login: current 0, read mark 0, write mark 15, automatic on", and
+    "the first write mark is 15 with all eight"."""
 
     def __init__(self, owner):
         self.owner = owner
-        self.current = 0
-        self.read_mark = 0
-        self.write_mark = TOP_LEVEL
+        self.current = BOTTOM                # three Labels
+        self.read_mark = BOTTOM
+        self.write_mark = TOP
         self.automatic = True
         self.moves = 0                       # "starting at 0 at login"
         self.open_reading = set()            # object numbers
         self.open_writing = set()
 
-    def move_to(self, level):
-        """What R, W and B do to the current level: "A move is a change of
-        current by R, W or B"."""
-        if level != self.current:
+    def move_to(self, label):
+        """What R, W and B do to the current label: "A move is a change of
+        current by R, W or B", of its level or its set."""
+        if label != self.current:
             self.moves = min(self.moves + 1, MOVES_STOP)
-        self.current = level
+        self.current = label
 
     def copy(self):
         other = Process(self.owner)
@@ -144,11 +183,12 @@ def read_setup(data):
         if record[0] == KIND_SWITCHES:
             facility = Facility(*(byte == 1 for byte in record[1:5]))
         elif record[0] == KIND_USER:
-            facility.users.append(User(record[1], record[2], record[3] == 1))
+            # "User byte 4 is the clearance's set, object byte 7 the object's set"
+            facility.users.append(User(Label(record[1], record[4]), record[2], record[3] == 1))
         else:
             # "the parent directory's number plus 1, or 0 for none"
             parent = record[6] - 1 if record[6] != 0 else None
-            facility.objects.append(Object(*record[1:6], parent))
+            facility.objects.append(Object(record[1], Label(record[2], record[7]), *record[3:6], parent))
     return 0, 0, facility
 
 
@@ -203,16 +243,18 @@ def bytes_allowed(record):
         used = 5
         fields = all(record[i] in (0, 1) for i in (1, 2, 3, 4))
     elif record[0] == KIND_USER:
-        used = 4
+        used = 5                             # any byte is a set
         fields = (record[1] <= TOP_LEVEL and record[2] in (0, 1, 2)
                   and record[3] in (0, 1))
     else:
-        used = 7                             # byte 6 alone never gives 17: reading 18
+        used = 8                             # byte 6 alone never gives 17: reading 18
         fields = (record[1] in (FILE, DIRECTORY, CHANNEL, CONTROL)
                   and (record[2] <= TOP_LEVEL or record[2] == UNSET)
                   and record[3] in (GENERAL, SECURITY, SYSTEM, UNSET)
                   and record[4] in (NO_TYPE, SECURITY_INFORMATION)
-                  and record[5] & ~sum(FLAGS) == 0)
+                  and record[5] & ~sum(FLAGS) == 0
+                  # "which must be 0 where the level is unset"
+                  and (record[2] != UNSET or record[7] == 0))
     # "All other bytes are 0"
     return fields and all(byte == 0 for byte in record[used:])
 
@@ -224,17 +266,17 @@ def setup_bytes(facility):
     out = bytearray([KIND_SWITCHES, facility.mac_on, facility.fc_on,
                      facility.sim_on, facility.ff_on, 0, 0, 0])
     for user in facility.users:
-        out += bytes([KIND_USER, user.clearance, user.role, user.trusted,
-                      0, 0, 0, 0])
+        out += bytes([KIND_USER, user.clearance.level, user.role, user.trusted,
+                      user.clearance.set, 0, 0, 0])
     # "the writer puts out parents by their new numbers"
     live = [number for number, obj in enumerate(facility.objects) if obj.live]
     new_numbers = {number: new for new, number in enumerate(live)}
     for obj in facility.objects:
         if obj.live:
             parent = live_parent(facility, obj)
-            out += bytes([KIND_OBJECT, obj.kind, obj.level, obj.category,
+            out += bytes([KIND_OBJECT, obj.kind, obj.label.level, obj.category,
                           obj.data_type, obj.flags,
-                          0 if parent is None else new_numbers[parent] + 1, 0])
+                          0 if parent is None else new_numbers[parent] + 1, obj.label.set])
     return bytes(out)
 
 
@@ -333,7 +375,7 @@ def questions_before_modules(facility, request, p, t, e):
     if request == CREATE and not len(objects) < MAX_OBJECTS:
         return 10
     if request == SET_LEVEL and not e <= TOP_LEVEL:
-        return 11
+        return 11                            # reading 22: any byte t is a set
     return 0
 
 
@@ -349,68 +391,81 @@ def combine(a, b):
 
 def mac_answer(facility, request, p, t, e):
     """MAC's answer, and the calling process as its effect leaves it (a copy, or
-    None where no level, mark or flag of it changes; a signal's effect is on the
+    None where no label, mark or flag of it changes; a signal's effect is on the
     receiver, in enforce)."""
     if not facility.mac_on:
         return NOT_CARED, None
-    level = None
-    if needs_object(request, e):
-        level = facility.objects[t].level
-        # "Object with unset level: undefined, before everything else."
-        if level == UNSET:
-            return UNDEFINED, None
+    # "Object with unset level: undefined, before everything else."
+    if needs_object(request, e) and facility.objects[t].label.level == UNSET:
+        return UNDEFINED, None
     if request == LOGIN:
         return GRANTED, None
     process = facility.processes[p]
     owner = facility.users[process.owner]
-    clearance = owner.clearance
-    moved = process.copy()
-
-    # Set-level, of a trusted owner too.
+    # Set-level, of a trusted owner too; "takes the new set from t".
     if request == SET_LEVEL:
-        if process.read_mark <= e <= process.write_mark and e <= clearance:
-            moved.current = e                # no move: it is not by R, W or B
-            moved.automatic = False
-            return GRANTED, moved
-        return NOT_GRANTED, None
-
+        return set_level(process, owner.clearance, Label(e, t))
     # "Trusted owner: granted in every class and for signals; marks and
     # current level untouched."  Reading 5: the caller's owner.
     if owner.trusted:
         return GRANTED, None
-
     if request == SEND_SIGNAL:
+        # "where two had to be equal, signals included, both parts must be"
         if process.current == facility.processes[t].current:
             return GRANTED, None
         return NOT_GRANTED, None
-
     call_class = class_of(facility, request, t, e)
-
     # "N, login, clone, terminate, create of a channel or control data: granted."
     if call_class in (None, "N"):
         return GRANTED, None
+    return by_class(process, owner.clearance, call_class, facility.objects[t].label)
 
-    if call_class == "R":
-        if level <= process.current or (
-                process.automatic and level <= process.write_mark
-                and level <= clearance):
-            moved.move_to(max(process.current, level))
-            moved.read_mark = max(process.read_mark, level)
-            return GRANTED, moved
+
+def set_level(process, clearance, new):
+    """"granted if read mark <= e <= write mark and e <= clr; current becomes e,
+    automatic goes off for good", of the label (e, t)"""
+    if not (new.dominates(process.read_mark) and process.write_mark.dominates(new)
+            and clearance.dominates(new)):
         return NOT_GRANTED, None
+    moved = process.copy()
+    moved.current = new                      # no move: it is not by R, W or B
+    moved.automatic = False
+    return GRANTED, moved
 
-    # W and B
-    if level == process.current or (
-            process.automatic
-            and process.read_mark <= level <= process.write_mark
-            and level <= clearance):
-        moved.move_to(level)
-        moved.write_mark = min(process.write_mark, level)
+
+def by_class(process, clearance, call_class, label):
+    """R, W and B on an object of that label"""
+    granted = reads if call_class == "R" else writes
+    if not granted(process, clearance, label):
+        return NOT_GRANTED, None
+    moved = process.copy()
+    if call_class == "R":
+        moved.move_to(process.current.least_above(label))
+        moved.read_mark = process.read_mark.least_above(label)
+    else:
+        moved.move_to(label)
+        moved.write_mark = process.write_mark.greatest_below(label)
         if call_class == "B":                # "both marks become L"; reading 8
-            moved.read_mark = level
-            moved.write_mark = level
-        return GRANTED, moved
-    return NOT_GRANTED, None
+            moved.read_mark = label
+            moved.write_mark = label
+    return GRANTED, moved
+
+
+def reads(process, clearance, label):
+    """"R is granted without a move if current dominates L, and otherwise if
+    automatic is on and the least label above both stays under write mark and
+    clearance"."""
+    above = process.current.least_above(label)
+    return process.current.dominates(label) or (
+        process.automatic and process.write_mark.dominates(above) and clearance.dominates(above))
+
+
+def writes(process, clearance, label):
+    """W and B: L is current, or automatic and "read mark <= L <= write mark and
+    L <= clr", read as dominance"""
+    return label == process.current or (
+        process.automatic and label.dominates(process.read_mark)
+        and process.write_mark.dominates(label) and clearance.dominates(label))
 
 
 def fc_answer(facility, request, p, t, e):
@@ -428,8 +483,8 @@ def fc_answer(facility, request, p, t, e):
 def sim_answer(facility, request, p, t, e):
     if not facility.sim_on or not needs_object(request, e):
         return NOT_CARED
-    writes = class_of(facility, request, t, e) in ("W", "B") or request == WRITE
-    if not writes or facility.objects[t].data_type != SECURITY_INFORMATION:
+    writing = class_of(facility, request, t, e) in ("W", "B") or request == WRITE
+    if not writing or facility.objects[t].data_type != SECURITY_INFORMATION:
         return NOT_CARED
     if facility.users[facility.processes[p].owner].role == OFFICER:
         return GRANTED
@@ -516,14 +571,14 @@ def enforce(facility, call):
         processes[t] = processes[p].copy()
     elif request == SEND_SIGNAL:
         # "with MAC on an untrusted receiver's read mark becomes its current
-        # level": the receiver's owner; reading 20: p itself too
+        # level", now its label: the receiver's owner; reading 20: p itself too
         if facility.mac_on and not facility.users[processes[t].owner].trusted:
             processes[t].read_mark = processes[t].current
     elif request == TERMINATE:
         processes[p] = None
     elif request == CREATE:
-        # "level the process's current one after its move, category general,
-        # data type none"
+        # "level the process's current one after its move", now its label,
+        # "category general, data type none"
         created = Object(e, processes[p].current, GENERAL, NO_TYPE)
         # "A created file or directory gets its directory as parent and flag
         # 128, other created objects neither."
@@ -599,18 +654,20 @@ class Account:
 
 # --- Moves ----------------------------------------------------------------
 
-def most_moves(facility, p):
-    """"at most the owner's clearance plus 1"; reading 21: also where it is 0"""
-    return facility.users[facility.processes[p].owner].clearance + 1
+def most_moves(facility, user):
+    """"clearance level plus its number of categories plus 1"; reading 21: also
+    where it is 0; of no user as of one whose clearance is 0 with no category"""
+    clearance = facility.users[user].clearance if user < len(facility.users) else BOTTOM
+    return clearance.level + sum(clearance.set >> n & 1 for n in range(8)) + 1
 
 
 def currents(facility):
-    """The current level of each process, None where it does not run."""
+    """The current label of each process, None where it does not run."""
     return [process and process.current for process in facility.processes]
 
 
 class History:
-    """Moves, counted from the calls, whether each was accepted, and the current levels before and after it; never from the number that a
+    """Moves, counted from the calls, whether each was accepted, and the current labels before and after it; never from the number that a
     process carries."""
 
     def __init__(self, setup):

@@ -30,7 +30,8 @@ def level_of(facility, p):
     """reading 12"""
     if p >= model.PROCESSES or facility.processes[p] is None:
         return "-"
-    return str(facility.processes[p].current)
+    # "The run program prints the level alone."
+    return str(facility.processes[p].current.level)
 
 
 def read_file(name):

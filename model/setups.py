@@ -3,8 +3,8 @@
 from records import object_record, switches_record, user_record
 
 # The last object lies in the directory before it.
-BASE = [switches_record(1, 1, 1, 1), user_record(15, 2, 1), user_record(0, 0, 0),
-        object_record(1, 15, 2, 1, 143, 0), object_record(3, 255, 255, 0, 128, 1)]
+BASE = [switches_record(1, 1, 1, 1), user_record(15, 2, 1, 255), user_record(0, 0, 0),
+        object_record(1, 15, 2, 1, 143, 0, 129), object_record(3, 255, 255, 0, 128, 1)]
 VALUES = (0, 1, 2, 3, 4, 8, 15, 16, 32, 64, 128, 129, 130, 143, 144, 254, 255)
 
 
@@ -68,5 +68,15 @@ def parents():
     yield head + object_record(0, 0, 0, 0, 0, 255)[:7] + b"\1"
 
 
+def sets():
+    """Any set of a clearance and of an object's label, but none where the level is unset; 17 for that before 19."""
+    head = switches_record(1, 0, 0)
+    for held in (0, 1, 2, 4, 8, 16, 32, 64, 128, 170, 254, 255):
+        for level in (0, 15, 255):
+            yield head + user_record(min(level, 15), 0, 0, held) + object_record(0, level, 0, 0, 0, 0, held)
+        yield head + object_record(1, 0, 0, 0) + object_record(0, 255, 0, 0, 0, 3, held)
+        yield head + object_record(1, 0, 0, 0) + object_record(0, 0, 0, 0, 0, 3, held)
+
+
 def all_setups():
-    return [*damaged(), *lengths(), *places(), *parents()]
+    return [*damaged(), *lengths(), *places(), *parents(), *sets()]

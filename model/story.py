@@ -2,7 +2,8 @@
 
 Two windows of one user, the restricted hull lines and the open yard folder; then a clone, a new login and a user of a lower clearance; then,
 in a third window of the first user, directories that flags shield; then a window that is signalled by one that may have read; then one
-whose level moves as often as it may, with a clone, after objects of levels 1 and 2 were made for it.
+whose level moves as often as it may, with a clone, after objects of levels 1 and 2 were made for it; then two projects at one level, and a
+window of a third user that has read both.
 """
 
 import os
@@ -12,14 +13,17 @@ from model import (ADD_INHERITED, CHANNEL, CLONE, CONTROL, CREATE, DELETE, DIREC
                    READ_ONLY, READ_OPEN, READ_WRITE_OPEN, SEND_SIGNAL, SET_LEVEL, TERMINATE, WRITE, WRITE_OPEN)
 from records import object_record, switches_record, user_record
 
-DESIGNER, FITTER = 0, 1
+DESIGNER, FITTER, PLANNER = 0, 1, 2
+FERRY, TUG = 1, 2                    # the categories a and b, as bits of a set
 YARD_FOLDER, YARD_NOTES, HULL_LINES = 0, 1, 2
 RELEASED_DRAWINGS, RELEASED_SHEET, MEASURING_TOOLS, RULER, OWN_RULER, NEW_RULER = 3, 4, 5, 6, 7, 8
 BERTH_SETTINGS, CRANE_CHANNEL, CRANE_SETTINGS = 9, 10, 11      # made by calls, of levels 1, 1 and 2
+FERRY_SETTINGS, TUG_SETTINGS, SLIP_PLAN = 12, 13, 14           # made by calls, of level 1 with a, with b and with both
 LEFT, RIGHT, COPY, OTHER, SHIELD, RECEIVER, MAKER, MOVER, MOVED_COPY = 0, 1, 2, 3, 4, 5, 6, 7, 8
+PLANNING, BOTH_READ, AT_FERRY, NO_PROJECT = 9, 10, 11, 12
 
 SETUP = (switches_record(1, 0, 0, 1)
-         + user_record(3, 0, 0) + user_record(1, 0, 0)
+         + user_record(3, 0, 0) + user_record(1, 0, 0) + user_record(3, 0, 0, FERRY | TUG)
          + object_record(DIRECTORY, 0, 0, 0) + object_record(FILE, 0, 0, 0) + object_record(FILE, 3, 0, 0)
          + object_record(DIRECTORY, 0, 0, 0, READ_ONLY)
          + object_record(FILE, 0, 0, 0, ADD_INHERITED, RELEASED_DRAWINGS + 1)
@@ -83,6 +87,28 @@ CALLS = [
     (GET_STATUS, MOVER, BERTH_SETTINGS, 0),
     (TERMINATE, MOVER, 0, 0),
     (LOGIN, MOVER, 0, DESIGNER),
+    (LOGIN, PLANNING, 0, PLANNER),
+    (SET_LEVEL, PLANNING, FERRY, 1),             # of set-level t is the set
+    (CREATE, PLANNING, 0, CONTROL),              # becomes FERRY_SETTINGS
+    (SET_LEVEL, PLANNING, TUG, 1),
+    (CREATE, PLANNING, 0, CONTROL),              # becomes TUG_SETTINGS
+    (SET_LEVEL, PLANNING, FERRY | TUG, 1),
+    (CREATE, PLANNING, 0, CONTROL),              # becomes SLIP_PLAN
+    (LOGIN, BOTH_READ, 0, PLANNER),
+    (GET_STATUS, BOTH_READ, FERRY_SETTINGS, 0),  # to 1 with a
+    (GET_STATUS, BOTH_READ, TUG_SETTINGS, 0),    # to 1 with a and b
+    (MODIFY_ACCESS, BOTH_READ, FERRY_SETTINGS, 0),       # b is in its read mark
+    (MODIFY_ACCESS, BOTH_READ, TUG_SETTINGS, 0),
+    (MODIFY_ACCESS, BOTH_READ, SLIP_PLAN, 0),
+    (LOGIN, AT_FERRY, 0, PLANNER),
+    (SET_LEVEL, AT_FERRY, FERRY, 1),
+    (SET_LEVEL, PLANNING, TUG, 1),
+    (SEND_SIGNAL, AT_FERRY, PLANNING, 0),        # from a to b, at one level
+    (SET_LEVEL, PLANNING, FERRY, 1),
+    (SEND_SIGNAL, AT_FERRY, PLANNING, 0),
+    (SET_LEVEL, PLANNING, 0, 1),                 # a is in its read mark now
+    (LOGIN, NO_PROJECT, 0, DESIGNER),
+    (GET_STATUS, NO_PROJECT, FERRY_SETTINGS, 0),     # her clearance's level is enough, its set is not
 ]
 
 

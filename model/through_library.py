@@ -1,16 +1,17 @@
 """Compares the library for C with the model: python3 -B model/through_library.py SEED CALLS
 
 Set-ups and lists of calls from the seed, until CALLS calls were made, through model/library.c: those of fuzz.py, as many in which many users and
-objects meet calls that the modules judge, and as many in which levels move. Each call is made by value and where the facility is. After each call its
-outcome, the sixteen counters of refusals, the number of moves of every process, the calling process, the target as a process and the target as an
-object are compared, the object with its effective flags and where each comes from; after the last call the set-up written out, which must be read
-back, also into buffers that are too short or longer: of the first lists of each kind into those of every length up to 8 bytes beyond the need. Half
-of the lists begin with counters that C put into the facility, at their stop, next to it, or anywhere; in some C puts in marks of open objects, so
-that a write meets a read-only file, which no list of calls has open for writing, or levels and marks of a process, so that with MAC off there are
-levels other than 0, which no list of calls gives, or a number of moves, at its stop, next to it, or any. Where C put in no levels and no moves, each
-number of moves is held against the history of its process, and is at most the owner's clearance plus 1. Of some lists with accepted signals hv_holds
-is asked who holds whose matter, which it works out from the set-up and the calls. examples/c/library makes the library; cc, or what CC names, builds
-the program. Ends with the number of calls, or at the first difference.
+objects meet calls that the modules judge, and as many in which labels move; most set-ups have categories. Each call is made by value and where the
+facility is. After each call its outcome, the sixteen counters of refusals, for each user how often its processes move at most, for every process the
+number of moves and all labels, level and set, the calling process, the target as a process and the target as an object are compared, the object with
+its effective flags and where each comes from; after the last call the set-up written out, which must be read back, also into buffers that are too
+short or longer: of the first lists of each kind into those of every length up to 8 bytes beyond the need. Half of the lists begin with counters that
+C put into the facility, at their stop, next to it, or anywhere; in some C puts in marks of open objects, so that a write meets a read-only file,
+which no list of calls has open for writing, or levels and sets of a process, so that with MAC off there are labels other than the first ones, which
+no list of calls gives, or a number of moves, at its stop, next to it, or any, or sets of any byte for a process, an object or a clearance. Where C put
+in no labels and no moves, each number of moves is held against the history of its process, and is at most the owner's clearance's level plus its
+number of categories plus 1. Of some lists with accepted signals hv_holds is asked who holds whose matter, which it works out from the set-up and the
+calls. examples/c/library makes the library; cc, or what CC names, builds the program. Ends with the number of calls, or at the first difference.
 """
 
 import collections
@@ -23,6 +24,8 @@ import time
 import fuzz
 import model
 import moves
+import vectors
+from model import Label
 from records import object_record, switches_record, user_record
 
 ROOT = os.path.abspath(os.path.join(os.path.dirname(os.path.abspath(__file__)), ".."))
@@ -31,11 +34,15 @@ STOP = model.COUNTER_STOP
 OPENS = 254                   # a call of this request, which is none: C puts in marks of an open object before it
 LEVELS = 253                  # the same for the levels and marks of a process
 MOVES = 252                   # the same for the number of moves of a process
-CALL_BYTES = 7 + 4 * model.MAX_USERS + model.PROCESSES + 7 + 7 + 7 + 1 + 5
+SETS = 251                    # the same for the sets of its labels
+OBJECT_SET = 250              # the same for the set of an object's label
+CLEARANCE_SET = 249           # the same for the set of a user's clearance
+CALL_BYTES = 7 + 4 * model.MAX_USERS + model.MAX_USERS + 4 + 7 * model.PROCESSES + 10 + 10 + 8 + 1 + 5
 BATCH = 100
 EVERY = 12                    # so many lists are written out into buffers of every length
 BEYOND = 8
 OTHER = 165                   # what stands in a buffer before
+JUDGED = (model.READ_OPEN, model.READ_OPEN, model.SEARCH, model.GET_STATUS, model.WRITE_OPEN, model.READ_WRITE_OPEN)
 PAIRS = 6                     # so many times the account is asked of a list at most
 ASKED = 16                    # of objects below this number
 
@@ -61,41 +68,52 @@ def counters(rng):
 def busy(rng):
     """Many users and objects, and calls most of which the modules judge."""
     users, objects, processes = rng.randrange(1, 17), rng.randrange(4, 24), rng.randrange(1, 9)
+    sets = vectors.some_sets(rng)
     setup = switches_record(*(rng.random() < 0.8 for _ in range(4)))
-    setup += b"".join(user_record(rng.randrange(6), rng.randrange(3), rng.random() < 0.1) for _ in range(users))
+    setup += b"".join(user_record(rng.randrange(6), rng.randrange(3), rng.random() < 0.1, vectors.clearance_set(rng, sets)) for _ in range(users))
     directories = [0]
     for number in range(objects):
         kind = rng.randrange(4)
         flags = rng.choice((0, rng.randrange(16))) + rng.choice((0, model.ADD_INHERITED))
-        setup += object_record(kind, rng.choice((0, 1, 2, 3, 4, 5, model.UNSET)), rng.choice((0, 0, 1, 2, model.UNSET)), rng.random() < 0.3, flags,
-                               rng.choice(directories))
+        level = rng.choice((0, 1, 2, 3, 4, 5, model.UNSET))
+        # now and then a set where the level is unset, which is refused
+        setup += object_record(kind, level, rng.choice((0, 0, 1, 2, model.UNSET)), rng.random() < 0.3, flags, rng.choice(directories),
+                               rng.choice(sets) if level != model.UNSET or rng.random() < 0.02 else 0)
         directories += [number + 1] if kind == model.DIRECTORY else []
-    calls = [(model.LOGIN, p, 0, rng.randrange(users)) for p in range(processes)]
+    calls, put_sets = [(model.LOGIN, p, 0, rng.randrange(users)) for p in range(processes)], rng.random() < 0.3
     for _ in range(rng.randrange(20, 200)):
         request = rng.choice(tuple(range(22)) + (model.READ_OPEN, model.WRITE_OPEN, model.SET_LEVEL, model.SEND_SIGNAL))
         extra = rng.randrange(users) if request == model.LOGIN else rng.randrange(4)
         p, t = rng.randrange(processes + 1), rng.randrange(objects + 1)
         if request in (model.READ, model.WRITE, model.CLOSE) and rng.random() < 0.5:
             calls.append((OPENS, p, t, rng.randrange(4)))
+        if put_sets and rng.random() < 0.2:
+            some = rng.choice((rng.choice(sets), rng.choice(sets), rng.randrange(256)))
+            calls.append(rng.choice(((SETS, p, some, rng.randrange(8)), (OBJECT_SET, 0, t, some), (CLEARANCE_SET, rng.randrange(users), some, 0))))
+            # what the labels then decide, also where current is no longer under write mark and clearance
+            calls += [(rng.choice(JUDGED), p, rng.randrange(objects), 0) for _ in range(3)]
         if request == model.SEND_SIGNAL:
-            calls += meeting(rng, p, rng.randrange(processes + 1))
+            calls += meeting(rng, p, rng.randrange(processes + 1), sets)
+        elif request == model.SET_LEVEL:
+            calls.append((request, p, rng.choice((rng.choice(sets), rng.choice(sets), rng.randrange(256))), extra))
         else:
             calls.append((request, p, t, extra))
     return setup, b"".join(map(bytes, calls))
 
 
-def meeting(rng, p, q):
-    """A signal from p to q, mostly at one level: what they have, or a set one, or one that C puts in; then what q's mark decides."""
-    level, way = rng.randrange(4), rng.random()
+def meeting(rng, p, q, sets):
+    """A signal from p to q, mostly at one label: what they have, or a set one, or one that C puts in; then what q's mark decides."""
+    level, held, way = rng.randrange(4), rng.choice(sets), rng.random()
     calls = []
     if way < 0.3:
-        calls += [(model.SET_LEVEL, n, 0, level) for n in {p, q}]
+        calls += [(model.SET_LEVEL, n, held if rng.random() < 0.9 else rng.choice(sets), level) for n in sorted({p, q})]
     elif way < 0.5:
         # current and read mark by e, write mark by t, now and then of the sender another current
         calls += [(LEVELS, q, rng.choice((15, rng.randrange(16))), level + 16 * rng.randrange(16)),
                   (LEVELS, p, 15, rng.choice((level, level, level, rng.randrange(16))) + 16 * rng.randrange(level + 1))]
+        calls += [(SETS, n, rng.choice((held, held, rng.choice(sets))), 1) for n in (p, q)] * (rng.random() < 0.7)
     calls.append((model.SEND_SIGNAL, p, q if rng.random() < 0.9 else p, rng.randrange(256)))
-    return calls + [(model.SET_LEVEL, q, 0, rng.randrange(4))] * (rng.random() < 0.5)
+    return calls + [(model.SET_LEVEL, q, rng.choice((0, held)), rng.randrange(4))] * (rng.random() < 0.5)
 
 
 # requests of each class, by kind; few deletes, so that something is left
@@ -104,8 +122,8 @@ BY_CLASS = {letter: {kind: [request for request, of in requests.items() if of ==
 
 
 def way(rng, clearance, kinds):
-    """Calls of a process, without it: up by reads, up by a write, down by writes to what was read, each level in turn or some left out, and
-    some that would move it once more. Objects 2 * L, a file, and 2 * L + 1 are of level L."""
+    """Calls of a process, without it: up by reads, up by a write, down by writes to what was read, each label in turn or some left out, and
+    some that would move it once more. Labels are told by their place in a chain; objects 2 * L, a file, and 2 * L + 1 are of the one at place L."""
     each = rng.random() < 0.7
     read = rng.randrange(max(1, clearance)) if each else rng.randrange(clearance + 1)
     high = clearance if each else rng.randrange(read, clearance + 1)
@@ -122,14 +140,23 @@ def way(rng, clearance, kinds):
     return calls
 
 
+def label_chain(rng, most):
+    """Labels, each with one level or one category more than that before it: so many steps and one more, where there is room; often levels alone."""
+    steps = min(most + 1, model.TOP_LEVEL + 8)
+    least = max(0, steps - model.TOP_LEVEL)
+    categories = least if rng.random() < 0.4 else rng.randint(least, min(8, steps))
+    return vectors.chain(rng, Label(steps - categories, sum(1 << n for n in rng.sample(range(8), categories))))
+
+
 def moving(rng):
-    """Few users, objects of each level, and processes and their clones that go such ways, one call of one and one of another."""
-    clearances = [rng.choice((0, 1, 2, 3, 3, 5, 15)) for _ in range(rng.randrange(1, 5))]
-    levels = min(max(clearances) + 1, model.TOP_LEVEL) + 1
-    kinds = [kind for _ in range(levels) for kind in (model.FILE, rng.randrange(4))]
+    """Few users, objects of each label of a chain, and processes and their clones that go such ways, one call of one and one of another."""
+    clearances = [rng.choice((0, 1, 2, 3, 3, 5, 15)) for _ in range(rng.randrange(1, 5))] + [23] * (rng.random() < 0.1)
+    labels = label_chain(rng, max(clearances))
+    kinds = [kind for _ in labels for kind in (model.FILE, rng.randrange(4))]
     setup = switches_record(rng.random() < 0.9, *(rng.random() < 0.2 for _ in range(3)))
-    setup += b"".join(user_record(clearance, rng.randrange(3), rng.random() < 0.1) for clearance in clearances)
-    setup += b"".join(object_record(kind, n // 2, rng.random() < 0.05, 0, rng.random() < 0.05) for n, kind in enumerate(kinds))
+    setup += b"".join(user_record(labels[place].level, rng.randrange(3), rng.random() < 0.1, labels[place].set) for place in clearances)
+    setup += b"".join(object_record(kind, labels[n // 2].level, rng.random() < 0.05, 0, rng.random() < 0.05, 0, labels[n // 2].set)
+                      for n, kind in enumerate(kinds))
     put_in, calls, left, most = rng.random() < 0.3, [], {}, rng.randrange(40, 200)
     while len(calls) < most:
         chance = rng.random()
@@ -143,7 +170,8 @@ def moving(rng):
             calls += [(model.TERMINATE, q, 0, 0), (model.CLONE, p, q, 0)]
             left[q] = list(left[p])
         elif chance < 0.23:
-            calls.append(rng.choice(((model.SET_LEVEL, p, 0, rng.randrange(4)), (model.SEND_SIGNAL, p, rng.randrange(12), 0))))
+            label = rng.choice(labels)
+            calls.append(rng.choice(((model.SET_LEVEL, p, label.set, label.level), (model.SEND_SIGNAL, p, rng.randrange(12), 0))))
         elif chance < 0.28 and put_in:
             calls.append((MOVES, p, rng.choice((253, 254, 255, rng.randrange(256))), 0))
         elif left[p]:
@@ -158,31 +186,57 @@ def record(facility, p):
     """A process as C is given it."""
     process = facility.processes[p] if p < model.PROCESSES else None
     if process is None:
-        return bytes(7)
-    return bytes((1, process.owner, process.current, process.read_mark, process.write_mark, process.automatic, process.moves))
+        return bytes(10)
+    return bytes((1, process.owner, *label_bytes(process), process.automatic, process.moves))
+
+
+def label_bytes(process):
+    return [byte for label in (process.current, process.read_mark, process.write_mark) for byte in (label.level, label.set)]
 
 
 def object_bytes(facility, t):
     """An object as C is given it, its effective flags, and where each flag comes from."""
     if t >= len(facility.objects):
-        return bytes(8) + bytes([model.NO_OBJECT] * 5)
+        return bytes(9) + bytes([model.NO_OBJECT] * 5)
     obj = facility.objects[t]
     sources = [model.flag_source(facility, t, flag) for flag in model.FLAGS]
-    return bytes((obj.live, obj.kind, obj.level, obj.category, obj.data_type, obj.flags, 0 if obj.parent is None else obj.parent + 1,
-                  model.effective_flags(facility, t), *(model.NO_OBJECT if source is None else source for source in sources)))
+    return bytes((obj.live, obj.kind, obj.label.level, obj.label.set, obj.category, obj.data_type, obj.flags,
+                  0 if obj.parent is None else obj.parent + 1, model.effective_flags(facility, t),
+                  *(model.NO_OBJECT if source is None else source for source in sources)))
 
 
 def put_levels(facility, p, t, e):
     """What C does before a call of request LEVELS."""
     if p < model.PROCESSES and facility.processes[p] is not None:
         process = facility.processes[p]
-        process.current, process.read_mark, process.write_mark = e % 16, e // 16, t % 16
+        process.current, process.read_mark = Label(e % 16, process.current.set), Label(e // 16, process.read_mark.set)
+        process.write_mark = Label(t % 16, process.write_mark.set)
 
 
 def put_moves(facility, p, t):
     """What C does before a call of request MOVES."""
     if p < model.PROCESSES and facility.processes[p] is not None:
         facility.processes[p].moves = t
+
+
+def put_sets(facility, p, t, e):
+    """What C does before a call of request SETS."""
+    if p < model.PROCESSES and facility.processes[p] is not None:
+        for bit, name in enumerate(("current", "read_mark", "write_mark")):
+            if e >> bit & 1:
+                setattr(facility.processes[p], name, Label(getattr(facility.processes[p], name).level, t))
+
+
+def put_object_set(facility, t, e):
+    """What C does before a call of request OBJECT_SET."""
+    if t < len(facility.objects) and facility.objects[t].live and facility.objects[t].label.level != model.UNSET:
+        facility.objects[t].label = Label(facility.objects[t].label.level, e)
+
+
+def put_clearance_set(facility, p, t):
+    """What C does before a call of request CLEARANCE_SET."""
+    if p < len(facility.users):
+        facility.users[p].clearance = Label(facility.users[p].clearance.level, t)
 
 
 def put_marks(facility, p, t, marks):
@@ -223,12 +277,19 @@ def put_in(facility, call):
         put_levels(facility, p, t, e)
     elif request == MOVES:
         put_moves(facility, p, t)
+    elif request == SETS:
+        put_sets(facility, p, t, e)
+    elif request == OBJECT_SET:
+        put_object_set(facility, t, e)
+    elif request == CLEARANCE_SET:
+        put_clearance_set(facility, p, t)
 
 
 def call_bytes(facility, call, outcome):
     """What the library gives of a call."""
-    carried = bytes(process.moves if process else 0 for process in facility.processes)
-    return (bytes(outcome) + words(facility.refusals) + carried + record(facility, call[1]) + record(facility, call[2])
+    most = bytes(model.most_moves(facility, user) for user in range(model.MAX_USERS)) + words([model.most_moves(facility, call[3])])
+    carried = b"".join(bytes((process.moves, *label_bytes(process))) if process else bytes(7) for process in facility.processes)
+    return (bytes(outcome) + words(facility.refusals) + most + carried + record(facility, call[1]) + record(facility, call[2])
             + object_bytes(facility, call[2]))
 
 
@@ -253,9 +314,10 @@ class Seen:
             return
         if request == model.SEND_SIGNAL:
             seen["signals"] += 1
-            seen["raised"] += self.receiver.read_mark > self.mark
+            seen["raised"] += self.receiver.read_mark != self.mark
         if model.needs_object(request, self.call[3]) and facility.processes[p].current != self.caller.current:
             seen["moves"] += 1
+            seen["moves of the set"] += facility.processes[p].current.set != self.caller.current.set
             seen["moves at the stop"] += self.caller.moves == model.MOVES_STOP
 
 
@@ -263,8 +325,9 @@ def follow(setup, facility, calls, out, seen):
     """Enforces a list, and puts what the library gives of each call behind `out`. The account after it, and the one without its signals."""
     account, without = model.Account(setup), model.Account(setup)
     # the history knows nothing of what C puts in
-    fresh = not any(request in (LEVELS, MOVES) for request in calls[:len(calls) // 4 * 4:4])
+    fresh = not any(request in (LEVELS, MOVES, SETS, OBJECT_SET, CLEARANCE_SET) for request in calls[:len(calls) // 4 * 4:4])
     held = moves.Held(facility, setup)
+    seen["with categories"] += len(calls) // 4 if moves.with_categories(facility) else 0
     for i in range(0, len(calls) - 3, 4):
         call = tuple(calls[i:i + 4])
         put_in(facility, call)
@@ -279,6 +342,7 @@ def follow(setup, facility, calls, out, seen):
         held.hold_all()
         seen["histories"] += held.compared
         seen["at the bound"] += held.at_bound
+        seen["at the bound with categories"] += held.at_bound_with_categories
     return account, without
 
 
@@ -298,7 +362,7 @@ def expected(rng, setup, begin, calls, every, seen):
     seen["of every length"] += every
     pairs = []
     # the account knows nothing of what C puts in
-    if seen["signals"] > signals and not any(request in (OPENS, LEVELS, MOVES) for request in calls[:len(calls) // 4 * 4:4]):
+    if seen["signals"] > signals and not any(CLEARANCE_SET <= request <= OPENS for request in calls[:len(calls) // 4 * 4:4]):
         pairs = pairs_of(rng, account, without)
         out.append(bytes(account.object_holds(x, c) for x, c in pairs))
         seen["asked"] += len(pairs)
@@ -324,6 +388,7 @@ def compare(rng, cases, seen):
             k = next(i for i in range(len(want)) if got[i:i + 1] != want[i:i + 1])
             made, within = divmod(k - 3, CALL_BYTES)
             place = "at call %d of %d, byte %d" % (made, len(calls) // 4, within) if made < len(calls) // 4 else "behind the calls"
+            place = place if k >= 3 else "at the set-up"
             sys.exit("differs %s:\nset-up %s\ncounters %s\ncalls %s" % (place, setup.hex(), begin, calls.hex()))
     if at != len(run.stdout):
         sys.exit("differs: bytes behind the last call")
@@ -345,11 +410,12 @@ def main():
         if made >= most:
             break
     print("seed %d: %d calls in %d lists through the library, %d denied, %d of them at a stop, %d by FF, %d of these a write; "
-          "%d signals accepted, %d of them raised a mark; %d moves, %d of them at the stop, %d numbers held against their history, %d lists at the bound; "
+          "%d signals accepted, %d of them raised a mark; %d calls with categories in the set-up; %d moves, %d of them of the set, %d at the stop, "
+          "%d numbers held against their history, %d lists at the bound, %d of them with categories; "
           "the account asked %d times, %d of them true by a signal alone; written into %d buffers, of every length for %d lists; none differs; %.0f s" % (
-              seed, made, lists, seen["denied"], seen["at a stop"], seen["by FF"], seen["write"], seen["signals"], seen["raised"], seen["moves"],
-              seen["moves at the stop"], seen["histories"], seen["at the bound"], seen["asked"], seen["by a signal"], seen["buffers"],
-              seen["of every length"], time.time() - begun))
+              seed, made, lists, seen["denied"], seen["at a stop"], seen["by FF"], seen["write"], seen["signals"], seen["raised"],
+              seen["with categories"], seen["moves"], seen["moves of the set"], seen["moves at the stop"], seen["histories"], seen["at the bound"],
+              seen["at the bound with categories"], seen["asked"], seen["by a signal"], seen["buffers"], seen["of every length"], time.time() - begun))
 
 
 if __name__ == "__main__":

@@ -7,8 +7,8 @@ DEPTHS = (3, 6, 12, 24, 48, 96, 126, 127)
 
 
 def users(rng):
-    """A trusted one, for whom MAC is in no way, and one to three others."""
-    return user_record(2, 1, 1) + b"".join(user_record(rng.randint(0, 2), rng.randint(0, 2), 0) for _ in range(rng.randint(1, 3)))
+    """A trusted one, for whom MAC is in no way, and one to three others; few with a category."""
+    return user_record(2, 1, 1) + b"".join(user_record(rng.randint(0, 2), rng.randint(0, 2), 0, rng.choice((0, 0, 1))) for _ in range(rng.randint(1, 3)))
 
 
 def chain_setup(rng, switches, depth=None):
@@ -28,7 +28,7 @@ def tree_setup(rng, switches):
     depth = rng.choice(DEPTHS)
     behind = rng.choice((1, 1, 3, depth))              # how far back a directory's parent may be; 1 is one chain
     broken = rng.choice((0.0, 0.02, 0.2))              # the share without add-inherited
-    levels = rng.choice(((0,), (0, 0, 0, 1), (0, 1, 2, UNSET)))
+    labels = rng.choice((((0, 0),), ((0, 0), (0, 0), (0, 0), (1, 0)), ((0, 0), (1, 0), (2, 0), (UNSET, 0)), ((0, 0), (0, 0), (0, 1), (1, 1))))
     # read-only and search-only directories take no more objects and cannot be deleted, so they are few
     chances = {READ_ONLY: rng.choice((0, 1)) / depth, NO_EXECUTE: rng.choice((1, 3)) / depth, NO_DELETE: 0.08,
                SEARCH_ONLY: rng.choice((0, 1)) / depth}
@@ -42,6 +42,7 @@ def tree_setup(rng, switches):
             parent = rng.randint(max(0, number - behind), number - 1) + 1 if number else 0
         else:
             parent = rng.choice((depth, rng.randint(0, depth)))
-        setup += object_record(kind, rng.choice(levels), rng.choice((0, 0, 0, 0, 1)), int(rng.random() < 0.05), flags, parent)
+        level, held = rng.choice(labels)
+        setup += object_record(kind, level, rng.choice((0, 0, 0, 0, 1)), int(rng.random() < 0.05), flags, parent, held)
     assert len(setup) <= 8 * (17 + MAX_OBJECTS)
     return setup

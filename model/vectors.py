@@ -18,12 +18,55 @@ from model import (ADD_INHERITED, CHANNEL, CLASSES, CLONE, CLOSE, CONTROL, CREAT
                    DELETE, DIRECTORY, EXECUTE, FILE, FLAGS, GET_STATUS, LOGIN,
                    MODIFY_ACCESS, NO_DELETE, NO_EXECUTE, READ, READ_ONLY, READ_OPEN,
                    READ_WRITE_OPEN, SEARCH, SEARCH_ONLY, SEND_SIGNAL, SET_LEVEL,
-                   TERMINATE, UNSET, WRITE, WRITE_OPEN)
+                   TERMINATE, UNSET, WRITE, WRITE_OPEN, Label)
 from records import object_record, switches_record, user_record
 
 FULL_COVERAGE = 240           # from so many cases on, coverage is asserted
 SIZE_LIMIT = 700 * 1000       # of expected, at 240 cases
 TOP = 3                       # of the levels where processes signal each other
+
+# --- Labels ---------------------------------------------------------------
+
+
+def some_sets(rng, none=0.4):
+    """The sets that the labels of a set-up have: with chance `none` the empty one alone, or those of few categories, so that equal sets occur and
+    many of which neither contains the other; now and then any."""
+    if rng.random() < none:
+        return [0]
+    bits = [1 << n for n in rng.sample(range(8), rng.choice((1, 2, 2, 2, 3, 3)))]
+    sets = [0]
+    for bit in bits:
+        sets += [held + bit for held in sets]
+    return sets + [0, 0] + ([rng.randint(0, 255)] if rng.random() < 0.2 else [])
+
+
+def all_of(sets):
+    return sum(bit for bit in (1 << n for n in range(8)) if any(held & bit for held in sets))
+
+
+def clearance_set(rng, sets):
+    """Mostly all that are in use."""
+    return rng.choice((all_of(sets), all_of(sets), all_of(sets), rng.choice(sets), 255 if sets != [0] else 0))
+
+
+def above(label, other):
+    """Whether the one label dominates the other, and is not it."""
+    return label.dominates(other) and label != other
+
+
+def rank(label):
+    return label.level + sum(label.set >> n & 1 for n in range(8))
+
+
+def chain(rng, label):
+    """Labels from 0 with no category up to that one, each with one level or one category more than that before it."""
+    steps = [(1, 0)] * label.level + [(0, 1 << n) for n in range(8) if label.set >> n & 1]
+    rng.shuffle(steps)
+    labels = [model.BOTTOM]
+    for level, bit in steps:
+        labels.append(Label(labels[-1].level + level, labels[-1].set + bit))
+    return labels
+
 
 # --- Set-ups --------------------------------------------------------------
 
@@ -36,6 +79,7 @@ def random_setup(rng, switches, users=None, objects=None):
     # with FF on few flags, so that calls are accepted; with FF off they forbid nothing
     flagged = rng.choice((0.02, 0.05, 0.12)) if switches[3] else 0.3
     in_directories = rng.choice((0.2, 0.5, 0.8))
+    sets = some_sets(rng)
     if users is None:
         users = rng.choice((1, 1, 2, 2, 3, 4, 5, 8, 16))
     if objects is None:
@@ -44,7 +88,7 @@ def random_setup(rng, switches, users=None, objects=None):
     for _ in range(users):
         clearance = rng.choice((rng.randint(0, top), top, top, rng.randint(0, 15)))
         data += user_record(clearance, rng.choice((0, 0, 1, 1, 2)),
-                            int(rng.random() < trusting))
+                            int(rng.random() < trusting), clearance_set(rng, sets))
     directories = []
     for number in range(objects):
         # the first four are one of each kind, so that each request has a target
@@ -56,36 +100,53 @@ def random_setup(rng, switches, users=None, objects=None):
         parent = 0
         if directories and rng.random() < in_directories:
             parent = rng.choice((rng.choice(directories), directories[-1])) + 1
-        data += object_record(kind, level, category, int(rng.random() < secret), flags, parent)
+        data += object_record(kind, level, category, int(rng.random() < secret), flags, parent,
+                              0 if level == UNSET else rng.choice(sets))
         directories += [number] if kind == DIRECTORY else []
     return data
 
 
-def signal_setup(rng, switches):
-    """Users most of whom may read what there is, and objects of a few levels, channels among them."""
+def signal_setup(rng, switches, none=0.4):
+    """Users most of whom may read what there is, and objects of a few labels, channels among them."""
     top = rng.choice((1, 2, TOP, TOP))
     trusting = rng.choice((0.0, 0.3, 0.5))
-    data = switches_record(*switches) + user_record(top, rng.choice((0, 1)), 0)
+    sets = some_sets(rng, none)
+    data = switches_record(*switches) + user_record(top, rng.choice((0, 1)), 0, all_of(sets))
     for _ in range(rng.randint(1, 3)):
-        data += user_record(rng.choice((top, top, rng.randint(0, 15))), rng.randint(0, 2), int(rng.random() < trusting))
+        data += user_record(rng.choice((top, top, rng.randint(0, 15))), rng.randint(0, 2), int(rng.random() < trusting), clearance_set(rng, sets))
     for number in range(rng.choice((8, 12, 16))):
         kind = number if number < 4 else rng.choice((FILE, FILE, CHANNEL, CHANNEL, DIRECTORY, CONTROL))
         level = UNSET if rng.random() < 0.02 else rng.randint(0, top)
-        data += object_record(kind, level, 0 if rng.random() < 0.8 else rng.randint(0, 2), int(rng.random() < 0.1))
+        data += object_record(kind, level, 0 if rng.random() < 0.8 else rng.randint(0, 2), int(rng.random() < 0.1), 0, 0,
+                              0 if level == UNSET else rng.choice(sets))
     return data
 
 
-def move_setup(rng, switches):
-    """Users most of whom are untrusted, and objects of each level up to one above a clearance, so that a level can move step by step."""
-    top = rng.choice((0, 1, 2, 3, 3, 4, 5, 15))
-    data = switches_record(*switches) + user_record(top, rng.choice((0, 1)), 0)
+def move_labels(rng, clearance):
+    """Labels of objects for moves: step by step from 0 to the clearance, and some beside the way, above it, or of one category alone."""
+    way = chain(rng, clearance)
+    beside = [Label(min(clearance.level + 1, model.TOP_LEVEL), clearance.set), Label(rng.randint(0, clearance.level), rng.randint(0, 255))]
+    alone = [Label(0, 1 << n) for n in range(8) if clearance.set >> n & 1]
+    return way * (3 if len(way) < 20 else 2) + beside * rng.randint(1, 3) + rng.sample(alone, rng.randint(0, min(len(alone), 3)))
+
+
+# of the first user of a set-up for moves: the clearance's level, and how many categories it has
+MOVE_CLEARANCES = ((3, 0), (1, 0), (2, 2), (3, 3), (15, 0), (0, 1), (2, 0), (0, 2), (3, 8), (1, 2), (5, 0), (15, 8))
+
+
+def move_setup(rng, switches, clearance=None):
+    """Users most of whom are untrusted, and objects of each label on a way up to a clearance, so that a label can move step by step."""
+    top, categories = clearance or rng.choice(MOVE_CLEARANCES)
+    held = sum(1 << n for n in rng.sample(range(8), categories))
+    data = switches_record(*switches) + user_record(top, rng.choice((0, 1)), 0, held)
     for _ in range(rng.randint(0, 3)):
-        data += user_record(rng.choice((top, top, rng.randint(0, 15))), rng.randint(0, 2), int(rng.random() < 0.3))
-    for level in range(min(top + 1, model.TOP_LEVEL) + 1):
-        for kind in (FILE, *rng.sample(range(4), 2)):
-            category = 0 if rng.random() < 0.9 else rng.choice((1, 2, UNSET))
-            flags = rng.choice((READ_ONLY, NO_EXECUTE, NO_DELETE, SEARCH_ONLY)) if rng.random() < 0.1 else 0
-            data += object_record(kind, level, category, int(rng.random() < 0.1), flags)
+        data += user_record(rng.choice((top, top, rng.randint(0, 15))), rng.randint(0, 2), int(rng.random() < 0.3),
+                            rng.choice((held, held, held & rng.randint(0, 255))))
+    for number, label in enumerate(move_labels(rng, Label(top, held))):
+        kind = FILE if number % 3 == 0 else rng.randrange(4)
+        category = 0 if rng.random() < 0.9 else rng.choice((1, 2, UNSET))
+        flags = rng.choice((READ_ONLY, NO_EXECUTE, NO_DELETE, SEARCH_ONLY)) if rng.random() < 0.1 else 0
+        data += object_record(kind, label.level, category, int(rng.random() < 0.1), flags, 0, label.set)
     return data
 
 
@@ -141,10 +202,15 @@ def damaged_setups(rng):
     for bit in (16, 32, 64):
         damage("bit %d of" % bit, "object", 5, bit + sum(f for f in FLAGS if rng.random() < 0.5), 17)
     # a byte that must be 0
-    for kind, places in (("switches", (5, 6, 7)), ("user", (4, 5, 6, 7)),
-                         ("object", (7,))):
+    for kind, places in (("switches", (5, 6, 7)), ("user", (5, 6, 7))):
         for place in places:
             damage("not zero", kind, place, rng.randint(1, 255), 17)
+    # a set where the level is unset
+    for name, value in (("set 1", 1), ("set 128", 128), ("some set", rng.randint(1, 255))):
+        data, users, objects = base()
+        index = rng.randint(users + 1, users + objects)
+        data[8 * index + 2], data[8 * index + 7] = UNSET, value
+        cases.append(("%s with an unset level, object byte 7" % name, bytes(data), 17, index))
     # lengths
     cases.append(("length 0", b"", 14, 0))
     for over in range(1, 8):
@@ -197,7 +263,7 @@ def damaged_setups(rng):
     parent("number above 130", rng.randint(0, 7), rng.randint(131, 254))
     parent("a bad flag with", 5, 1, 17, [(5, 16)])
     parent("a bad kind with", 5, 255, 17, [(1, 4)])
-    parent("byte 7 with", 5, 1, 17, [(7, 1)])
+    parent("a set with an unset level with", 5, 1, 17, [(2, UNSET), (7, 1)])
     parent("a bad record kind with", 5, 1, 15, [(0, 4)])
     data, users, _ = base(None, 8)
     data[8 * (users + 5) + 6], data[8 * (users + 6) + 1] = 1, 4
@@ -248,6 +314,26 @@ class Caller:
     def one_of(self, choices, otherwise=255):
         return self.rng.choice(choices) if choices else self.rng.randint(0, otherwise)
 
+    def labels(self):
+        """Of the live objects, the unset ones left out, in an order that the seed alone gives."""
+        found = {self.facility.objects[t].label for t in self.live() if self.facility.objects[t].label.level != UNSET}
+        return sorted(found, key=lambda label: (label.level, label.set))
+
+    def clearance(self, p):
+        process = self.facility.processes[p] if p < model.PROCESSES else None
+        return self.facility.users[process.owner].clearance if process else model.BOTTOM
+
+    def set_to(self, p, label):
+        return self.give((SET_LEVEL, p, label.set, label.level))
+
+    def some_label(self, p, least=0):
+        """A label for process p, mostly with a set under its clearance."""
+        held = self.clearance(p).set
+        process = self.facility.processes[p] if p < model.PROCESSES else None
+        current = process.current.set if process else 0
+        return Label(self.rng.randint(least, TOP), self.rng.choice((0, current, current, held & self.rng.randint(0, 255), held,
+                                                                    self.rng.randint(0, 255) if held else 0)))
+
     def unused(self):
         """a byte that is not looked at"""
         return 0 if self.rng.random() < 0.7 else self.rng.randint(0, 255)
@@ -268,7 +354,7 @@ class Caller:
         elif request == SEND_SIGNAL:
             t = self.one_of(self.running(), 31)
         elif request == SET_LEVEL:
-            e = rng.randint(0, rng.choice((1, 3, 15)))
+            e, t = rng.randint(0, rng.choice((1, 3, 15))), self.some_label(p).set
         elif request == CREATE:
             e = rng.randint(0, 3)
             if e < 2:
@@ -430,17 +516,19 @@ class Caller:
         for request in (WRITE_OPEN, READ_OPEN, READ_WRITE_OPEN):
             calls = [(request, p, t, self.unused()) for t in self.live([FILE])]
             tried += [call for call in calls if self.moves_a_mark(call)][:2]
-        self.give((SET_LEVEL, p, self.unused(), self.rng.randint(0, 2)))
+        label = self.some_label(p)
+        self.set_to(p, Label(min(label.level, 2), label.set))
         for call in tried:
             self.give(call)
 
     def pair(self):
         """Two processes that run, different ones where there are two: p one that has read, q one that has read less, where there is one."""
         running, processes = self.running(), self.facility.processes
-        read = [p for p in running if processes[p].read_mark > 0]
+        read = [p for p in running if processes[p].read_mark != model.BOTTOM]
         p = self.one_of(read if read and self.rng.random() < 0.6 else running, 31)
         others = [q for q in running if q != p] or running
-        less = [q for q in others if processes[q].read_mark < processes[p].read_mark <= processes[q].write_mark]
+        less = [q for q in others if above(processes[p].read_mark, processes[q].read_mark)
+                and processes[q].write_mark.dominates(processes[p].read_mark)]
         return p, self.one_of(less if less and self.rng.random() < 0.8 else others, 31)
 
     def read_object(self, p):
@@ -462,35 +550,44 @@ class Caller:
         for request in ways[kind]:
             self.give((request, p, t, self.unused()))
 
+    def label_below(self, label):
+        """One that the label dominates, another where there is one."""
+        for _ in range(8):
+            below = Label(self.rng.randint(0, label.level), label.set & self.rng.choice((255, self.rng.randint(0, 255))))
+            if below != label:
+                break
+        return below
+
     def try_below(self, p):
-        """What a read mark below the current level would let process p do."""
+        """What a read mark below the current label would let process p do."""
         process = self.facility.processes[p]
-        if process is None or process.current == 0:
+        if process is None or process.current == model.BOTTOM:
             return
-        below = [t for t in self.live([FILE]) if self.facility.objects[t].level < process.current]
+        below = [t for t in self.live([FILE]) if above(process.current, self.facility.objects[t].label)]
         if below and process.automatic:
             self.give((WRITE_OPEN, p, self.rng.choice(below), self.unused()))
         if self.rng.random() < 0.6:
-            self.give((SET_LEVEL, p, self.unused(), self.rng.randint(0, process.current - 1)))
+            self.set_to(p, self.label_below(process.current))
 
     def meet(self):
-        """Two processes at one level, by a read or a set-level; one signals the other, which then tries what it might before."""
+        """Two processes at one label, by a read or a set-level; one signals the other, which then tries what it might before."""
         p, q = self.pair()
         processes = self.facility.processes
         if self.rng.random() < 0.5:
             self.read_object(p)
         if processes[p] is None or processes[q] is None:
             return
-        level = processes[p].current
-        above = [t for t in self.live([FILE]) if self.facility.objects[t].level == level and self.answer((READ_OPEN, q, t, 0)) == 0]
-        writes = [t for t in self.live([FILE]) if self.facility.objects[t].level == level and self.answer((WRITE_OPEN, q, t, 0)) == 0]
+        label = processes[p].current
+        there = [t for t in self.live([FILE]) if self.facility.objects[t].label == label]
+        reads = [t for t in there if self.answer((READ_OPEN, q, t, 0)) == 0]
+        writes = [t for t in there if self.answer((WRITE_OPEN, q, t, 0)) == 0]
         way = self.rng.random()
-        if processes[q].current != level and above and way < 0.2:
-            self.give((READ_OPEN, q, self.rng.choice(above), self.unused()))
-        elif processes[q].current != level and writes and way < 0.5:
+        if processes[q].current != label and reads and way < 0.2:
+            self.give((READ_OPEN, q, self.rng.choice(reads), self.unused()))
+        elif processes[q].current != label and writes and way < 0.5:
             self.give((WRITE_OPEN, q, self.rng.choice(writes), self.unused()))
         else:
-            self.give((SET_LEVEL, q, self.unused(), level))
+            self.set_to(q, label)
         sender, receiver = (p, q) if self.rng.random() < 0.8 else (q, p)
         self.give((SEND_SIGNAL, sender, receiver, self.unused()))
         if self.rng.random() < 0.7:
@@ -499,12 +596,14 @@ class Caller:
             self.write_object(receiver)
 
     def apart(self):
-        """A signal between two levels."""
+        """A signal between two labels, now and then of one level."""
         p, q = self.pair()
         if self.facility.processes[q] is None:
             return
-        if self.facility.processes[p].current == self.facility.processes[q].current:
-            self.give((SET_LEVEL, q, self.unused(), self.rng.randint(0, TOP)))
+        current = self.facility.processes[p].current
+        if current == self.facility.processes[q].current:
+            label = self.some_label(q)
+            self.set_to(q, label if self.rng.random() < 0.5 else Label(current.level, label.set))
         self.give((SEND_SIGNAL, p, q, self.unused()))
         self.try_below(q)
         self.write_object(q)
@@ -521,21 +620,22 @@ class Caller:
             return
         p, q = self.rng.choice(trusted), self.rng.choice(others)
         if self.rng.random() < 0.5:
-            self.give((SET_LEVEL, q, self.unused(), min(users[processes[q].owner].clearance, self.rng.randint(1, TOP))))
+            label = self.some_label(q, 1)
+            self.set_to(q, self.clearance(q).greatest_below(label))
             self.give((SEND_SIGNAL, p, q, self.unused()))
             self.try_below(q)
         else:
-            self.give((SET_LEVEL, p, self.unused(), processes[q].current))
+            self.set_to(p, processes[q].current)
             self.give((SEND_SIGNAL, q, p, self.unused()))
             self.try_below(p)
 
     def to_itself(self):
-        """A signal to itself, at a level that was set or written to."""
+        """A signal to itself, at a label that was set or written to."""
         p, _ = self.pair()
         if self.facility.processes[p] is None:
             return
         if self.rng.random() < 0.5:
-            self.give((SET_LEVEL, p, self.unused(), self.rng.randint(1, TOP)))
+            self.set_to(p, self.some_label(p, 1))
         else:
             self.write_object(p)
         self.give((SEND_SIGNAL, p, p, self.unused()))
@@ -544,78 +644,117 @@ class Caller:
     def carry_a_channel(self):
         """A channel's matter into another object, by a second process that is signalled."""
         objects, users = self.facility.objects, self.facility.users
-        set_levels = [t for t in self.live() if objects[t].level != UNSET]
-        channels = [t for t in set_levels if objects[t].kind == CHANNEL]
+        labelled = [t for t in self.live() if objects[t].label.level != UNSET]
+        channels = [t for t in labelled if objects[t].kind == CHANNEL]
         free = [n for n in self.free() if n < 8]
         if not channels or len(free) < 2:
             return
         p, q = self.rng.sample(free, 2)
         a = self.rng.choice(channels)
-        least = objects[a].level + self.rng.randint(0, 1)
-        above = [t for t in set_levels if t != a and objects[t].level >= least]
-        files = [t for t in above if objects[t].kind == FILE]
-        b = self.one_of((files if files and self.rng.random() < 0.7 else above) or set_levels)
-        cleared = [n for n, user in enumerate(users) if user.clearance >= max(objects[a].level, objects[b].level)] or [0]
+        over = above if self.rng.random() < 0.5 else Label.dominates
+        higher = [t for t in labelled if t != a and over(objects[t].label, objects[a].label)]
+        files = [t for t in higher if objects[t].kind == FILE]
+        b = self.one_of((files if files and self.rng.random() < 0.7 else higher) or labelled)
+        both = objects[a].label.least_above(objects[b].label)
+        cleared = [n for n, user in enumerate(users) if user.clearance.dominates(both)] or [0]
         for n in (q, p):
             self.give((LOGIN, n, self.unused(), self.rng.choice(cleared)))
-        self.give((SET_LEVEL, q, self.unused(), objects[a].level))
+        self.set_to(q, objects[a].label)
         self.give((READ_WRITE_OPEN, p, a, self.unused()))
         self.give((READ, p, a, self.unused()))
         self.give((SEND_SIGNAL, p, q, self.unused()))
-        self.give((SET_LEVEL, q, self.unused(), objects[b].level))
+        self.set_to(q, objects[b].label)
         self.write_object(q, b)
         for n in (q, p):
             if self.rng.random() < 0.6:
                 self.give((TERMINATE, n, self.unused(), self.unused()))
 
-    def to_level(self, p, level, letters):
-        """A call of process p, of one of these classes, on an object of that level where there is one. Few deletes, so that something is left."""
+    def to_label(self, p, label, letters):
+        """A call of process p, of one of these classes, on an object of that label where there is one. Few deletes, so that something is left."""
         rng = self.rng
-        found = [(request, t) for t in self.live() if self.facility.objects[t].level == level
+        found = [(request, t) for t in self.live() if self.facility.objects[t].label == label
                  for request, letter in CLASSES[self.facility.objects[t].kind].items()
                  if letter in letters and (request != DELETE or rng.random() < 0.05)]
+        accepted = [(request, t) for request, t in found if self.answer((request, p, t, 0)) == 0]
+        found = accepted if accepted and rng.random() < 0.8 else found
         request, t = rng.choice(found or [(READ_OPEN, self.one_of(self.live()))])
         self.give((request, p, t, rng.randint(0, 1) if request == CREATE else self.unused()))
 
+    def nearest(self, labels, distance):
+        """One of those at the least distance."""
+        least = min(map(distance, labels))
+        return self.rng.choice([label for label in labels if distance(label) == least])
+
     def way_of_moves(self, clearance):
-        """Levels and classes: up by reads, up by a write, and down by writes to what was read, each level in turn or some left out."""
-        each = self.rng.random() < 0.7
-        read = self.rng.randint(0, max(0, clearance - 1 if each else clearance))
-        high = clearance if each else self.rng.randint(read, clearance)
-        way = [(level, "R") for level in range(1, read + 1)] + [(level, "W") for level in range(high, read - 1, -1)]
-        if self.rng.random() < 0.5:
+        """Labels and classes: up by reads, up by a write, and down by writes to what was read, step by step or some left out."""
+        labels = [label for label in self.labels() if clearance.dominates(label)]
+        way, current = [], model.BOTTOM
+        back = self.rng.random() < 0.6       # only to labels that can be written to on the way down
+        for _ in range(self.rng.randint(0, max(0, rank(clearance) - 1))):
+            higher = [label for label in labels if not current.dominates(label) and (not back or current.least_above(label) in labels)]
+            if higher:
+                label = self.nearest(higher, lambda label: rank(current.least_above(label)))
+                way, current = way + [(label, "R")], current.least_above(label)
+        read = current
+        written = [label for label in labels if label.dominates(read)]
+        while written:
+            label = self.nearest(written, lambda label: -rank(label))
+            way.append((label, "W"))
+            written = [lower for lower in written if above(label, lower)]
+        if way and self.rng.random() < 0.5:
             way[-1] = (way[-1][0], "B")
+        each = self.rng.random() < (0.7 if rank(clearance) < 10 else 0.9)
         return [step for step in way if each or self.rng.random() < 0.6]
 
     def settle(self):
-        """A login whose level moves to where it settles; clones made on the way go the rest of it too; then calls that would move it."""
+        """A login whose label moves to where it settles; clones made on the way go the rest of it too; then calls that would move it."""
         rng, users = self.rng, self.facility.users
         untrusted = [n for n, user in enumerate(users) if not user.trusted]
         user = rng.choice(untrusted if untrusted and rng.random() < 0.85 else range(len(users)))
         p = self.one_of([n for n in self.free() if n < 8] or self.free(), 31)
         self.give((LOGIN, p, self.unused(), user))
         group = [p]
-        for level, letters in self.way_of_moves(users[user].clearance):
+        for label, letters in self.way_of_moves(users[user].clearance):
             for q in group:
-                self.to_level(q, level, letters)
+                self.to_label(q, label, letters)
                 if rng.random() < 0.1:
-                    self.to_level(q, level, "R")
+                    self.to_label(q, label, "R")
             if self.free() and rng.random() < 0.12 and len(group) < 3:
                 group.append(rng.choice(self.free()))
                 self.give((CLONE, rng.choice(group[:-1]), group[-1], self.unused()))
             if rng.random() < 0.04:
-                self.give(rng.choice(((SET_LEVEL, p, 0, level), (SEND_SIGNAL, p, p, 0), (SET_LEVEL, p, 0, rng.randint(0, 3)))))
+                other = self.some_label(p)
+                self.give(rng.choice(((SET_LEVEL, p, label.set, label.level), (SEND_SIGNAL, p, p, 0), (SET_LEVEL, p, other.set, other.level))))
         for q in group:
             self.wander(q)
             if rng.random() < 0.6:
                 self.give((TERMINATE, q, self.unused(), self.unused()))
 
     def wander(self, p=None):
-        """A call of any class at any level up to one above the clearance."""
+        """A call of any class at the label of any object, mostly under the clearance."""
         p = self.one_of(self.running(), 31) if p is None else p
-        process = self.facility.processes[p]
-        clearance = self.facility.users[process.owner].clearance if process else TOP
-        self.to_level(p, self.rng.randint(0, min(clearance + 1, model.TOP_LEVEL)), self.rng.choice(("R", "W", "W", "B")))
+        labels = self.labels() or [model.BOTTOM]
+        under = [label for label in labels if self.clearance(p).dominates(label)]
+        self.to_label(p, self.rng.choice(under if under and self.rng.random() < 0.8 else labels), self.rng.choice(("R", "W", "W", "B")))
+
+    def try_set(self):
+        """A call that the levels may allow and the sets may not: on an object of another set than the clearance or the current label has,
+        of one level where there is one, or a set-level to another set."""
+        rng, users = self.rng, self.facility.users
+        untrusted = [p for p in self.running() if not users[self.facility.processes[p].owner].trusted]
+        if not untrusted:
+            return
+        p = rng.choice(untrusted)
+        current, clearance = self.facility.processes[p].current, self.clearance(p)
+        labels = [label for label in self.labels() if label.level <= clearance.level]
+        outside = [label for label in labels if not clearance.dominates(label)]
+        other = [label for label in labels if not current.dominates(label) and not label.dominates(current)]
+        level = [label for label in other if label.level == current.level]
+        chosen = rng.choice((outside, other, level)) or other or outside
+        if chosen and rng.random() < 0.8:
+            self.to_label(p, rng.choice(chosen), rng.choice("RRWB"))
+        else:
+            self.set_to(p, Label(current.level, rng.choice((clearance.set, rng.randint(0, 255)))))
 
     def signals(self):
         """Signals between two processes, before and after one of them moves."""
@@ -631,9 +770,9 @@ class Caller:
         if self.rng.random() < 0.5:
             q = self.one_of(trusted or [q])
         self.give((SEND_SIGNAL, p, q, self.unused()))
-        e = self.rng.randint(1, 3)
+        label = self.some_label(p, 1)
         calls = [(READ_OPEN, p, t, 0) for t in self.live([FILE])]
-        calls = [call for call in calls if self.moves_a_mark(call)] + [(SET_LEVEL, p, 0, e)]
+        calls = [call for call in calls if self.moves_a_mark(call)] + [(SET_LEVEL, p, label.set, label.level)]
         self.give(self.rng.choice(calls))
         self.give((SEND_SIGNAL, p, q, self.unused()))
         self.give((SEND_SIGNAL, q, p, self.unused()))
@@ -760,13 +899,13 @@ class Caller:
                 self.rng.choice((self.shared_delete, self.fixed_level, self.signals,
                                  self.close_and_try, self.clone_and_try,
                                  self.again, self.make_and_try, self.end_a_shield,
-                                 self.try_flagged))()
+                                 self.try_flagged, self.try_set, self.try_set, self.try_set))()
             else:
                 self.step()
 
     def go_with_signals(self, count):
         ways = (self.meet, self.meet, self.meet, self.meet, self.across_trust, self.across_trust, self.apart, self.to_itself, self.carry_a_channel,
-                self.signals, self.again, self.again, self.step, self.step)
+                self.across_trust, self.signals, self.again, self.again, self.try_set, self.try_set, self.step, self.step)
         while len(self.calls) < count:
             if len(self.running()) < 3:
                 self.give(self.fitting(LOGIN))
@@ -774,9 +913,17 @@ class Caller:
 
     def go_with_moves(self, count):
         ways = (self.settle, self.settle, self.settle, self.settle, self.wander, self.wander, self.wander, self.wander, self.again,
-                self.clone_and_try, self.fixed_level, self.step, self.step)
+                self.clone_and_try, self.fixed_level, self.try_set, self.try_set, self.step, self.step)
         while len(self.calls) < count:
             if not self.running():
+                self.give(self.fitting(LOGIN))
+            self.rng.choice(ways)()
+
+    def go_with_labels(self, count):
+        ways = (self.wander, self.wander, self.wander, self.try_set, self.try_set, self.settle, self.meet, self.apart, self.carry_a_channel,
+                self.clone_and_try, self.again, self.step, self.step, lambda: self.creates(1))
+        while len(self.calls) < count:
+            if len(self.running()) < 3:
                 self.give(self.fitting(LOGIN))
             self.rng.choice(ways)()
 
@@ -917,8 +1064,17 @@ def move_case(rng, serial):
     """Processes whose level moves, MAC on in seven of eight, mostly alone."""
     mac = int(serial % 8 != 7)
     others = rng.choice(((0, 0, 0), (0, 0, 0), (0, 0, 1), (1, 0, 0), (1, 1, 1))) if mac else all_switches()[(6 + serial // 8 * 3) % 8][1:]
-    caller = Caller(rng, move_setup(rng, (mac,) + others))
+    caller = Caller(rng, move_setup(rng, (mac,) + others, MOVE_CLEARANCES[serial % 12]))
     caller.go_with_moves(rng.randint(110, 190))
+    return finish(rng, caller, serial, 0)
+
+
+def label_case(rng, serial):
+    """Labels of few levels and categories, none without, MAC on in seven of eight, mostly alone."""
+    mac = int(serial % 8 != 7)
+    others = rng.choice(((0, 0, 0), (0, 0, 0), (1, 0, 0), (0, 0, 1))) if mac else all_switches()[serial // 8 % 8][1:]
+    caller = Caller(rng, signal_setup(rng, (mac,) + others, 0.0))
+    caller.go_with_labels(rng.randint(110, 190))
     return finish(rng, caller, serial, 0)
 
 
@@ -931,7 +1087,7 @@ def finish(rng, caller, serial, count):
 
 MAKERS = {"full": full_case, "growing": growing_case, "bare": bare_case,
           "answers": answers_case, "tree": tree_case, "signals": signal_case,
-          "moves": move_case, "ordinary": ordinary_case}
+          "moves": move_case, "labels": label_case, "ordinary": ordinary_case}
 
 
 def some_case(rng):
@@ -952,6 +1108,7 @@ def make_cases(rng, count):
     plan += [("tree", n) for n in range(32)]
     plan += [("signals", n) for n in range(24)]
     plan += [("moves", n) for n in range(24)]
+    plan += [("labels", n) for n in range(16)]
     plan += [("worked example", 0)]
     plan = plan[:count]
     plan += [("ordinary", n) for n in range(count - len(plan))]
@@ -995,7 +1152,9 @@ def expected_lines(number, setup, calls):
     flags = sum((t + 1) * model.effective_flags(facility, t) for t in range(entered)
                 if facility.objects[t].live) % 4294967296
     moves = sum((p + 1) * process.moves for p, process in enumerate(facility.processes) if process) % 4294967296
-    lines.append("state %d %s %d %d %d %d %d" % (len(calls) // 4, refusals, entered, len(out), weighed, flags, moves))
+    sets = [sum((p + 1) * part(process).set for p, process in enumerate(facility.processes) if process) % 4294967296 for part in (
+        lambda process: process.current, lambda process: process.read_mark, lambda process: process.write_mark)]
+    lines.append("state %d %s %d %d %d %d %d %d %d %d" % (len(calls) // 4, refusals, entered, len(out), weighed, flags, moves, *sets))
     holds = sum(1 for x in range(entered) for c in range(entered)
                 if account.object_holds(x, c))
     lines.append("matter %d" % holds)
@@ -1025,22 +1184,28 @@ def coverage(cases):
             count["left-over bytes %d" % (len(calls) % 4)] += 1
         ended = set()
         account = model.Account(setup)
-        sent, moved = Sent(count, facility, account), Moved(count, facility, setup)
+        sent, moved, labelled = Sent(count, facility, account), Moved(count, facility, setup), Labelled(count, facility)
         set_up = len(facility.objects)
         for i in range(0, len(calls) - 3, 4):
             call = tuple(calls[i:i + 4])
             cover_flags(count, facility, call, model.query(facility, call), set_up)
             sent.before(call)
             moved.before(call)
+            labelled.before(call)
             outcome = cover_call(count, facility, account, call, ended)
             sent.after(call, outcome)
             moved.after(call, outcome)
+            labelled.after(call, outcome)
         cover_writing(count, facility, set_up)
     return count
 
 
 def cover_writing(count, facility, set_up):
-    """The set-up written out after the calls: parents that were deleted, have a new number, or were created."""
+    """The set-up written out after the calls: parents that were deleted, have a new number, or were created; sets of labels."""
+    sets = {record[7] for record in model.records(model.setup_bytes(facility)) if record[0] == model.KIND_OBJECT}
+    count["written with no set"] += sets == {0}
+    count["written with sets"] += len(sets) > 1
+    count["written with a created object's set"] += any(obj.live and obj.label.set for obj in facility.objects[set_up:])
     for obj in facility.objects:
         if obj.live and obj.parent is not None:
             deleted = not facility.objects[obj.parent].live
@@ -1162,7 +1327,7 @@ def cover_call(count, facility, account, call, ended):
     if request == SEND_SIGNAL and number in (0, 12) and facility.mac_on:
         sort = "trusted" if owner.trusted else "untrusted"
         equal = "equal" if process.current == other.current else "different"
-        count["signal, %s, %s levels" % (sort, equal)] += 1
+        count["signal, %s, %s labels" % (sort, equal)] += 1
     return outcome
 
 
@@ -1172,7 +1337,7 @@ class Sent:
     def __init__(self, count, facility, account):
         self.count, self.facility, self.account = count, facility, account
         self.lowest = {}                     # by process: its read mark by its own calls, where a signal raised it
-        self.left = {}                       # by process of a trusted owner: the level to which a signal would have raised it
+        self.left = {}                       # by process of a trusted owner: the label to which a signal would have raised it
         self.gained = collections.defaultdict(set)
 
     def before(self, call):
@@ -1212,7 +1377,7 @@ class Sent:
                     of[t] = set(of[p]) if of is self.gained else of[p]
         if model.needs_object(request, call[3]):
             if p in self.lowest and CLASSES[self.account.kinds[t]][request] in ("R", "B"):
-                self.lowest[p] = max(self.lowest[p], self.facility.objects[t].level)
+                self.lowest[p] = self.lowest[p].least_above(self.facility.objects[t].label)
             self.written(p, t)
 
     def signal(self, p, t, outcome):
@@ -1221,11 +1386,13 @@ class Sent:
         if outcome.number != 0:
             return
         owner = self.facility.users[self.receiver.owner]
-        below = self.mark < self.receiver.current
+        below = above(self.receiver.current, self.mark)
         sort = "MAC off" if not self.facility.mac_on else "a trusted receiver" if owner.trusted else "an untrusted receiver"
         sender = self.facility.users[self.facility.processes[p].owner]
         if self.receiver.read_mark != self.mark:
             count["signal raised the mark"] += 1
+            count["signal raised the mark's set"] += self.receiver.read_mark.set != self.mark.set
+            count["signal raised the mark's set alone"] += self.receiver.read_mark.level == self.mark.level
             count["signal to itself raised the mark"] += p == t
             count["signal of a trusted sender raised the mark"] += sender.trusted
             self.lowest.setdefault(t, self.mark)
@@ -1250,11 +1417,11 @@ class Sent:
             self.count["matter of a signal reached an object"] += 1
             if self.account.kinds[c] == CHANNEL and kind == FILE:
                 self.count["a channel's matter reached a file by a signal"] += 1
-                self.count["a channel's matter reached a higher file by a signal"] += self.facility.mac_on and objects[c].level < objects[t].level
+                self.count["a channel's matter reached a higher file by a signal"] += self.facility.mac_on and above(objects[t].label, objects[c].label)
 
 
 class Moved:
-    """What moves a list has, and what changes or could change a level and is none; the number of each process against its history."""
+    """What moves a list has, and what changes or could change a label and is none; the number of each process against its history."""
 
     def __init__(self, count, facility, setup):
         self.count, self.facility, self.history = count, facility, model.History(setup)
@@ -1267,7 +1434,7 @@ class Moved:
         self.process = self.facility.processes[p] if p < model.PROCESSES else None
         judged = model.query(self.facility, call).number in (0, 12, 13)
         self.letter = model.class_of(self.facility, request, t, e) if judged else None
-        self.level = self.facility.objects[t].level if self.letter else None
+        self.label = self.facility.objects[t].label if self.letter else None
         self.foreseen = model.mac_answer(self.facility, *call)[1] if judged else None
 
     def after(self, call, outcome):
@@ -1276,13 +1443,14 @@ class Moved:
         self.history.note(call, outcome.number == 0, self.currents, after)
         for q, process in enumerate(self.facility.processes):
             if process:
-                assert process.moves == self.history.moves(q) <= model.most_moves(self.facility, q), (call, q, process.moves)
+                assert process.moves == self.history.moves(q) <= model.most_moves(self.facility, process.owner), (call, q, process.moves)
         if self.letter in ("R", "W", "B"):
             self.by_class(p, outcome, after)
         if outcome.number != 0:
             return
         if request == SET_LEVEL:
-            self.count["set-level changed the level"] += after[p] != self.currents[p]
+            self.count["set-level changed the level"] += after[p].level != self.currents[p].level
+            self.count["set-level changed the set"] += after[p].set != self.currents[p].set
         elif request == CLONE:
             self.cloned.add(t)
             self.count["clone of a process that moved"] += self.process.moves > 0
@@ -1299,32 +1467,124 @@ class Moved:
             count["a move refused by another module"] += self.foreseen is not None and self.foreseen.current != self.currents[p]
         elif not self.facility.mac_on or owner.trusted:
             sort = "MAC off" if not self.facility.mac_on else "a trusted owner"
-            count["no move at another level, %s" % sort] += self.level != self.currents[p]
+            count["no move at another level, %s" % sort] += self.label.level != self.currents[p].level
+            count["no move at another set, %s" % sort] += self.label.set != self.currents[p].set
         elif after[p] == self.currents[p]:
-            count["%s left the level" % self.letter] += 1
-            count["%s left the level where it had moved" % self.letter] += self.process.moves > 0
-            count["left the level, clearance 0"] += owner.clearance == 0
+            count["%s left the label" % self.letter] += 1
+            count["%s left the label where it had moved" % self.letter] += self.process.moves > 0
+            count["left the label, clearance 0"] += owner.clearance == model.BOTTOM
         else:
-            way = "up" if after[p] > self.currents[p] else "down"
-            at_bound = self.facility.processes[p].moves == owner.clearance + 1
-            count["move %s by %s" % (way, self.letter)] += 1
-            count["move of a clone"] += p in self.cloned
-            count["move to the bound by %s" % self.letter] += at_bound
-            count["move of a clone to the bound"] += at_bound and p in self.cloned
-            count["move to the bound, clearance %d" % owner.clearance] += at_bound
+            self.move(p, self.currents[p], after[p], owner.clearance)
+
+    def move(self, p, before, after, clearance):
+        count = self.count
+        way = "up" if after.dominates(before) else "down" if before.dominates(after) else "aside"
+        at_bound = self.facility.processes[p].moves == rank(clearance) + 1
+        sort = "both parts" if before.level != after.level and before.set != after.set else "the set" if before.level == after.level else "the level"
+        count["move %s by %s" % (way, self.letter)] += 1
+        count["move of %s by %s" % (sort, self.letter)] += 1
+        count["move to more than the object's label by R"] += after != self.label
+        count["move of a clone"] += p in self.cloned
+        count["move to the bound by %s" % self.letter] += at_bound
+        count["move of a clone to the bound"] += at_bound and p in self.cloned
+        count["move to the bound, clearance %d" % clearance.level] += at_bound and clearance.set == 0
+        count["move to the bound, %d categories" % (rank(clearance) - clearance.level)] += at_bound
+
+
+class Labelled:
+    """What the sets of labels decide: calls that by the levels alone, or by an order that takes the set as a number, come out otherwise."""
+
+    def __init__(self, count, facility):
+        self.count, self.facility = count, facility
+
+    def before(self, call):
+        request, p, t, e = call
+        self.process = self.facility.processes[p] if p < model.PROCESSES else None
+        outcome = model.query(self.facility, call)
+        self.alone = None
+        if self.process is None or outcome.number not in (0, 12, 13) or not self.facility.mac_on:
+            return
+        self.needed = self.facility.objects[t].label if model.needs_object(request, e) else Label(e, t) if request == SET_LEVEL else None
+        self.letter = "set-level" if request == SET_LEVEL else "a signal" if request == SEND_SIGNAL else model.class_of(self.facility, request, t, e)
+        self.alone = self.by_level(call)
+        if outcome.mac == model.NOT_GRANTED and self.alone == model.GRANTED:
+            self.count["%s refused by the sets alone" % self.letter] += 1
+            self.refused(self.facility.users[self.process.owner].clearance)
+
+    def by_level(self, call):
+        """MAC's answer with every set taken away."""
+        kept = [(x, name, getattr(x, name)) for x in (*self.facility.objects, *self.facility.users, *filter(None, self.facility.processes))
+                for name in ("label", "clearance", "current", "read_mark", "write_mark") if hasattr(x, name)]
+        for x, name, label in kept:
+            setattr(x, name, Label(label.level))
+        answer = model.mac_answer(self.facility, *call[:2], 0 if call[0] == SET_LEVEL else call[2], call[3])[0]
+        for x, name, label in kept:
+            setattr(x, name, label)
+        return answer
+
+    def refused(self, clearance):
+        """Which of the three bounds it was that the set did not keep to."""
+        if self.needed is None:
+            return
+        label = self.process.current.least_above(self.needed) if self.letter == "R" else self.needed
+        kept = {"clearance": clearance.dominates(label), "write mark": self.process.write_mark.dominates(label),
+                "read mark": self.letter == "R" or label.dominates(self.process.read_mark)}
+        broken = [name for name, keeps in kept.items() if not keeps]
+        if len(broken) == 1 and (self.process.automatic or self.letter == "set-level"):
+            self.count["%s refused by the set of the %s" % (self.letter, broken[0])] += 1
+
+    def after(self, call, outcome):
+        request, p, t, e = call
+        count = self.count
+        if outcome.number != 0 or self.alone is None:
+            return
+        if request == CREATE:
+            count["created with a set"] += self.facility.objects[-1].label.set != 0
+            count["created with a set, in no directory"] += self.facility.objects[-1].label.set != 0 and e > 1
+        if request == CLONE:
+            count["clone of a process with sets"] += self.process.current.set != 0 and self.process.read_mark.set != 0
+        if request == SEND_SIGNAL:
+            count["signal at one label with a set"] += self.process.current.set != 0
+        if self.letter == "R" and not self.facility.users[self.process.owner].trusted:
+            apart = not self.needed.dominates(self.process.current) and not self.process.current.dominates(self.needed)
+            count["R of a label that is neither above nor below"] += apart
+            count["R of another set at one level"] += apart and self.needed.level == self.process.current.level
+
+
+def assert_labels(count, least):
+    for letter in ("R", "W", "B", "set-level", "a signal"):
+        least("%s refused by the sets alone" % letter, 10)
+    for letter in ("R", "W", "set-level"):
+        least("%s refused by the set of the clearance" % letter, 5)
+        least("%s refused by the set of the write mark" % letter, 3)
+    for letter in ("W", "set-level"):
+        least("%s refused by the set of the read mark" % letter, 5)
+    for letter in ("R", "W"):
+        for part in ("the set", "the level", "both parts"):
+            least("move of %s by %s" % (part, letter), 10)
+    least("move of the set by B", 3)
+    for key in ("R of a label that is neither above nor below", "R of another set at one level", "move to more than the object's label by R",
+                "created with a set", "created with a set, in no directory", "clone of a process with sets", "signal at one label with a set",
+                "signal raised the mark's set", "set-level changed the set", "no move at another set, MAC off", "no move at another set, a trusted owner",
+                "written with no set", "written with sets", "written with a created object's set"):
+        least(key, 10)
+    least("signal raised the mark's set alone", 3)
+    for categories in (1, 2, 3, 8):
+        least("move to the bound, %d categories" % categories, 1)
 
 
 def assert_moves(count, least):
-    for key in ("move up by R", "move up by W", "move down by W", "move up by B", "move down by B", "R left the level", "W left the level",
-                "B left the level", "R left the level where it had moved", "W left the level where it had moved",
-                "B left the level where it had moved", "left the level, clearance 0", "no move at another level, MAC off",
+    for key in ("move up by R", "move up by W", "move down by W", "move up by B", "move down by B", "R left the label", "W left the label",
+                "B left the label", "R left the label where it had moved", "W left the label where it had moved",
+                "B left the label where it had moved", "left the label, clearance 0", "no move at another level, MAC off",
                 "no move at another level, a trusted owner", "a move refused by another module", "set-level changed the level",
                 "clone of a process that moved", "move of a clone", "login after a process that moved", "move to the bound by W",
                 "move to the bound by B", "move of a clone to the bound"):
         least(key, 10)
     for clearance in (1, 2, 3, 15):
         least("move to the bound, clearance %d" % clearance, 1)
-    assert not any(count[key] for key in ("move down by R", "move to the bound by R", "move to the bound, clearance 0"))
+    assert not any(count[key] for key in ("move down by R", "move aside by R", "move aside by W", "move aside by B", "move to the bound by R",
+                                          "move to the bound, clearance 0"))
 
 
 def assert_coverage(count):
@@ -1347,6 +1607,8 @@ def assert_coverage(count):
         least("refused: " + name, 1)
     for record_kind in ("switches", "user", "object"):
         for place in range(8):
+            if (record_kind, place) == ("user", 4):
+                continue                     # any byte is a set
             assert any(key.startswith("refused: ")
                        and key.endswith("%s byte %d" % (record_kind, place))
                        for key in count), (record_kind, place)
@@ -1363,9 +1625,9 @@ def assert_coverage(count):
                 "129th object refused", "delete of an object open at several",
                 "clone onto itself", "refused only since automatic is off",
                 "MAC's yes with a move, another's no", "level or mark moved",
-                "matter moved into an object", "signal, untrusted, equal levels",
-                "signal, untrusted, different levels",
-                "signal, trusted, different levels"):
+                "matter moved into an object", "signal, untrusted, equal labels",
+                "signal, untrusted, different labels",
+                "signal, trusted, different labels"):
         least(key, 10)
     for key in ("signal, number 0", "signal, number 2", "signal, number 3", "signal, number 12", "signal raised the mark",
                 "signal left the mark, MAC off", "signal left the mark, an untrusted receiver", "signal left the mark, a trusted receiver",
@@ -1379,6 +1641,7 @@ def assert_coverage(count):
     least("a channel's matter reached a higher file by a signal", 5)
     assert count["signal left a mark below the level, an untrusted receiver"] == 0
     assert_moves(count, least)
+    assert_labels(count, least)
     least("128th object", 5)
     least("longest set-up", 1)
     least("refused set-up with left-over bytes", 5)

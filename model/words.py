@@ -22,21 +22,28 @@ def word(words, number, none):
     return words[number] if number < len(words) else none
 
 
+def label_words(label):
+    """The level and, where there are any, the letters of the label's categories, the low bit's first."""
+    letters = "".join(letter for n, letter in enumerate("abcdefgh") if label.set >> n & 1)
+    return "%d%s" % (label.level, letters and " " + ("all" if letters == "abcdefgh" else letters))
+
+
 def process_words(facility, p):
     process = facility.processes[p] if p < model.PROCESSES else None
     if process is None:
         return "not running"
     clearance = facility.users[process.owner].clearance
-    return "user %d, clearance %d, current %d, marks %d to %d, moved %d times of at most %d" % (
-        process.owner, clearance, process.current, process.read_mark, process.write_mark, process.moves, clearance + 1)
+    return "user %d, clearance %s, current %s, marks %s to %s, moved %d times of at most %d" % (
+        process.owner, *map(label_words, (clearance, process.current, process.read_mark, process.write_mark)), process.moves,
+        model.most_moves(facility, process.owner))
 
 
 def object_words(facility, t):
     thing = facility.objects[t] if t < len(facility.objects) else None
     if thing is None or not thing.live:
         return " object %d (not live)" % t
-    level = "unset" if thing.level == model.UNSET else str(thing.level)
-    return " object %d (%s, level %s%s)" % (t, KINDS[thing.kind], level, flag_words(facility, t) if facility.ff_on else "")
+    label = "unset" if thing.label.level == model.UNSET else label_words(thing.label)
+    return " object %d (%s, level %s%s)" % (t, KINDS[thing.kind], label, flag_words(facility, t) if facility.ff_on else "")
 
 
 def flag_words(facility, t):
@@ -60,7 +67,7 @@ def target_words(facility, request, t, e):
     if request == model.SEND_SIGNAL:
         return " process %d (%s)" % (t, process_words(facility, t))
     if request == model.SET_LEVEL:
-        return " level %d" % e
+        return " level " + label_words(model.Label(e, t))
     if request == model.TERMINATE:
         return ""
     if request == model.CREATE:

@@ -43,23 +43,37 @@ _Static_assert(offsetof(hv_facility, ff) == 5048, "ff");
 _Static_assert(offsetof(hv_facility, flags) == 5049, "flags");
 _Static_assert(offsetof(hv_facility, parents) == 5177, "parents");
 _Static_assert(offsetof(hv_facility, moves) == 5305, "moves");
-_Static_assert(sizeof(hv_facility) == 5340, "facility");
-_Static_assert(offsetof(hv_enforced, outcome) == 5340 && sizeof(hv_enforced) == 5348, "enforced");
-_Static_assert(offsetof(hv_reading, number) == 5340 && offsetof(hv_reading, index) == 5342 && sizeof(hv_reading) == 5344, "reading");
-_Static_assert(offsetof(hv_printed, length) == 5344 && sizeof(hv_printed) == 5352, "printed");
+_Static_assert(offsetof(hv_facility, clearancesets) == 5337, "clearancesets");
+_Static_assert(offsetof(hv_facility, sets) == 5353, "sets");
+_Static_assert(offsetof(hv_facility, currentsets) == 5481, "currentsets");
+_Static_assert(offsetof(hv_facility, readsets) == 5513, "readsets");
+_Static_assert(offsetof(hv_facility, writesets) == 5545, "writesets");
+_Static_assert(sizeof(hv_facility) == 5580, "facility");
+_Static_assert(offsetof(hv_enforced, outcome) == 5580 && sizeof(hv_enforced) == 5588, "enforced");
+_Static_assert(offsetof(hv_reading, number) == 5580 && offsetof(hv_reading, index) == 5582 && sizeof(hv_reading) == 5584, "reading");
+_Static_assert(offsetof(hv_printed, length) == 5584 && sizeof(hv_printed) == 5592, "printed");
 _Static_assert(sizeof(hv_outcome) == 7 && offsetof(hv_outcome, object) == 5 && offsetof(hv_outcome, ff) == 6, "outcome");
 _Static_assert(sizeof(hv_writing) == 16 && offsetof(hv_writing, number) == 8, "writing");
-_Static_assert(sizeof(hv_user_record) == 3 && sizeof(hv_process_record) == 7 && sizeof(hv_object_record) == 7, "records");
-_Static_assert(offsetof(hv_process_record, automatic) == 5 && offsetof(hv_process_record, moves) == 6, "process record");
-_Static_assert(offsetof(hv_object_record, flags) == 5 && offsetof(hv_object_record, parent) == 6, "object record");
+_Static_assert(sizeof(hv_label) == 2 && offsetof(hv_label, level) == 0 && offsetof(hv_label, set) == 1, "label");
+_Static_assert(sizeof(hv_user_record) == 4 && sizeof(hv_process_record) == 10 && sizeof(hv_object_record) == 8, "records");
+_Static_assert(offsetof(hv_user_record, clearance) == 0 && offsetof(hv_user_record, role) == 2 && offsetof(hv_user_record, trusted) == 3, "user record");
+_Static_assert(offsetof(hv_process_record, current) == 2 && offsetof(hv_process_record, readmark) == 4 && offsetof(hv_process_record, writemark) == 6
+               && offsetof(hv_process_record, automatic) == 8 && offsetof(hv_process_record, moves) == 9, "process record");
+_Static_assert(offsetof(hv_object_record, label) == 2 && offsetof(hv_object_record, category) == 4 && offsetof(hv_object_record, datatype) == 5
+               && offsetof(hv_object_record, flags) == 6 && offsetof(hv_object_record, parent) == 7, "object record");
 _Static_assert(sizeof(hv_summary_record) == 6 && offsetof(hv_summary_record, entered) == 4 && offsetof(hv_summary_record, ff) == 5, "summary");
 
 /* The paddings: from, and behind the last byte. */
 enum { PAD = offsetof(hv_facility, opens) + HV_PROCESSES * HV_OBJECTS, PAD_END = offsetof(hv_facility, refusals) };
-enum { TAIL = offsetof(hv_facility, moves) + HV_PROCESSES, TAIL_END = sizeof(hv_facility) };
-_Static_assert(PAD == 4981 && PAD_END == 4984 && TAIL == 5337 && TAIL_END == 5340, "paddings");
+enum { TAIL = offsetof(hv_facility, writesets) + HV_PROCESSES, TAIL_END = sizeof(hv_facility) };
+_Static_assert(PAD == 4981 && PAD_END == 4984 && TAIL == 5577 && TAIL_END == 5580, "paddings");
 
 static const uint8_t each_flag[] = {HV_READ_ONLY, HV_NO_EXECUTE, HV_NO_DELETE, HV_SEARCH_ONLY, HV_ADD_INHERITED};
+
+static int label_is(hv_label label, int level, int set)
+{
+    return label.level == level && label.set == set;
+}
 
 static void processes(hv_facility f)
 {
@@ -68,32 +82,40 @@ static void processes(hv_facility f)
         int is = p < HV_PROCESSES;
         expect(r.running == (is ? f.runnings[p] : 0), "running", p);
         expect(r.owner == (is ? f.owners[p] : 0), "owner", p);
-        expect(r.current == (is ? f.currents[p] : 0), "current", p);
-        expect(r.readmark == (is ? f.readmarks[p] : 0), "read mark", p);
-        expect(r.writemark == (is ? f.writemarks[p] : 0), "write mark", p);
+        expect(label_is(r.current, is ? f.currents[p] : 0, is ? f.currentsets[p] : 0), "current", p);
+        expect(label_is(r.readmark, is ? f.readmarks[p] : 0, is ? f.readsets[p] : 0), "read mark", p);
+        expect(label_is(r.writemark, is ? f.writemarks[p] : 0, is ? f.writesets[p] : 0), "write mark", p);
         expect(r.automatic == (is ? f.automatics[p] : 0), "automatic", p);
         expect(r.moves == (is ? f.moves[p] : 0), "moves", p);
+    }
+}
+
+static void users(hv_facility f)
+{
+    for (int u = 0; u < 256; u++) {
+        hv_user_record r = hv_user(f, (uint8_t)u);
+        int is = u < HV_USERS;
+        uint32_t most = 1u + r.clearance.level;
+        for (int bit = 0; bit < 8; bit++) most += r.clearance.set >> bit & 1;
+        expect(label_is(r.clearance, is ? f.clearances[u] : 0, is ? f.clearancesets[u] : 0), "clearance", u);
+        expect(r.role == (is ? f.roles[u] : 0), "role", u);
+        expect(r.trusted == (is ? f.trusts[u] : 0), "trusted", u);
+        expect(hv_refusals(f, (uint8_t)u) == (is ? f.refusals[u] : 0), "refusals", u);
+        expect(hv_most_moves(f, (uint8_t)u) == most, "most moves", u);
     }
 }
 
 /* Each field of a facility of random bytes, as C has it and as the library reads it. */
 static void fields(hv_facility f)
 {
-    for (int u = 0; u < 256; u++) {
-        hv_user_record r = hv_user(f, (uint8_t)u);
-        int is = u < HV_USERS;
-        expect(r.clearance == (is ? f.clearances[u] : 0), "clearance", u);
-        expect(r.role == (is ? f.roles[u] : 0), "role", u);
-        expect(r.trusted == (is ? f.trusts[u] : 0), "trusted", u);
-        expect(hv_refusals(f, (uint8_t)u) == (is ? f.refusals[u] : 0), "refusals", u);
-    }
+    users(f);
     processes(f);
     for (int t = 0; t < 256; t++) {
         hv_object_record r = hv_object(f, (uint8_t)t);
         int is = t < HV_OBJECTS;
         expect(r.live == (is ? f.lives[t] : 0), "live", t);
         expect(r.kind == (is ? f.kinds[t] : 0), "kind", t);
-        expect(r.level == (is ? f.levels[t] : 0), "level", t);
+        expect(label_is(r.label, is ? f.levels[t] : 0, is ? f.sets[t] : 0), "label", t);
         expect(r.category == (is ? f.categories[t] : 0), "category", t);
         expect(r.datatype == (is ? f.datatypes[t] : 0), "data type", t);
         expect(r.flags == (is ? f.flags[t] : 0), "flags", t);
@@ -149,6 +171,23 @@ static void each_below(uint8_t *bytes, size_t n, int limit)
         bytes[i] = below(limit);
 }
 
+/* Labels of two categories, so that one set often contains another; some write marks with all eight. */
+static void likely_labels(hv_facility *f)
+{
+    each_below(f->clearances, sizeof f->clearances, 16);
+    each_below(f->levels, sizeof f->levels, 17);
+    each_below(f->currents, sizeof f->currents, 16);
+    each_below(f->readmarks, sizeof f->readmarks, 16);
+    each_below(f->writemarks, sizeof f->writemarks, 16);
+    each_below(f->clearancesets, sizeof f->clearancesets, 4);
+    each_below(f->sets, sizeof f->sets, 4);
+    each_below(f->currentsets, sizeof f->currentsets, 4);
+    each_below(f->readsets, sizeof f->readsets, 4);
+    for (int p = 0; p < HV_PROCESSES; p++) f->writesets[p] = below(2) ? HV_ALL_CATEGORIES : below(4);
+    for (int t = 0; t < HV_OBJECTS; t++)
+        if (f->levels[t] == 16) f->levels[t] = HV_UNSET;
+}
+
 /* A facility in which most numbers mean something, so that calls are decided by each field. */
 static hv_facility likely(void)
 {
@@ -159,25 +198,20 @@ static hv_facility likely(void)
     each_below(&f.sim, 1, 2);
     each_below(&f.ff, 1, 2);
     f.users = (uint8_t)(HV_USERS - below(4));
-    each_below(f.clearances, sizeof f.clearances, 16);
+    likely_labels(&f);
     each_below(f.roles, sizeof f.roles, 3);
     each_below(f.trusts, sizeof f.trusts, 2);
     f.entered = (uint8_t)(HV_OBJECTS - below(8));
     each_below(f.lives, sizeof f.lives, 2);
     each_below(f.kinds, sizeof f.kinds, 4);
-    each_below(f.levels, sizeof f.levels, 17);
     each_below(f.categories, sizeof f.categories, 4);
     each_below(f.datatypes, sizeof f.datatypes, 2);
     each_below(f.runnings, sizeof f.runnings, 2);
     each_below(f.owners, sizeof f.owners, HV_USERS);
-    each_below(f.currents, sizeof f.currents, 16);
-    each_below(f.readmarks, sizeof f.readmarks, 16);
-    each_below(f.writemarks, sizeof f.writemarks, 16);
     each_below(f.automatics, sizeof f.automatics, 2);
     each_below(f.opens, sizeof f.opens, 4);
     for (int p = 0; p < HV_PROCESSES; p++) f.moves[p] = below(3) ? below(256) : (uint8_t)(255 - below(2));   /* some at the stop, or next to it */
     for (int t = 0; t < HV_OBJECTS; t++) {
-        if (f.levels[t] == 16) f.levels[t] = HV_UNSET;
         if (f.categories[t] == 3) f.categories[t] = HV_UNSET;
         f.flags[t] = (uint8_t)((below(3) ? 0 : below(16)) | (below(2) ? HV_ADD_INHERITED : 0));
         f.parents[t] = 0;
@@ -241,18 +275,21 @@ static void shield(void)
     expect(r.number == HV_SETUP_PARENT && r.index == 4, "a parent that is no directory", r.number);
 }
 
-/* What an accepted signal does, by value and where the facility is: the receiver's read mark alone changes, and becomes its current level. */
+/* What an accepted signal does, by value and where the facility is: the receiver's read mark alone changes, and becomes its current label. */
 static void signal_to(hv_facility f, uint8_t p, uint8_t t, uint8_t number, int raised, const char *what)
 {
     hv_facility g = f, wanted = f;
-    if (raised) wanted.readmarks[t] = f.currents[t];
+    if (raised) {
+        wanted.readmarks[t] = f.currents[t];
+        wanted.readsets[t] = f.currentsets[t];
+    }
     if (number == HV_DENIED) wanted.refusals[f.owners[p]]++;
     hv_enforced e = hv_enforce(f, HV_SEND_SIGNAL, p, t, 0);
     hv_outcome o = hv_enforce_at(&g, HV_SEND_SIGNAL, p, t, 0);
     expect(e.outcome.number == number && o.number == number, what, o.number);
     expect(same_facility(&e.facility, &wanted), what, e.facility.readmarks[t]);
     expect(same_facility(&g, &wanted) && same_paddings(&g, &f), what, g.readmarks[t]);
-    expect(hv_process(e.facility, t).readmark == wanted.readmarks[t], what, hv_process(e.facility, t).readmark);
+    expect(label_is(hv_process(e.facility, t).readmark, wanted.readmarks[t], wanted.readsets[t]), what, hv_process(e.facility, t).readmark.level);
 }
 
 /* Signals to a receiver whose owner is untrusted, trusted, and to itself; upward, and with MAC off. Process 0 has read a file of level 2; processes 1
@@ -345,12 +382,76 @@ static void moves(void)
     move_of(&f, HV_READ_WRITE_OPEN, 5, 2, 0, 0, "a call with MAC off");
 }
 
+/* A call by value and where the facility is: both give the number, and process p then has these labels. */
+static void labels_of(hv_facility *f, const uint8_t c[4], uint8_t number, hv_label current, hv_label readmark, hv_label writemark, const char *what)
+{
+    hv_enforced r = hv_enforce(*f, c[0], c[1], c[2], c[3]);
+    hv_outcome o = hv_enforce_at(f, c[0], c[1], c[2], c[3]);
+    hv_process_record p = hv_process(*f, c[1]);
+    expect(o.number == number && r.outcome.number == number, what, o.number);
+    expect(same_facility(f, &r.facility), what, c[1]);
+    expect(label_is(p.current, current.level, current.set), what, p.current.set);
+    expect(label_is(p.readmark, readmark.level, readmark.set), what, p.readmark.set);
+    expect(label_is(p.writemark, writemark.level, writemark.set), what, p.writemark.set);
+}
+
+/* Two categories at level 1: files 0 to 3 have neither, the first, the second, both; user 0 is cleared for both, user 1 for the first. */
+static const uint8_t projects[] = {
+    3, 1, 0, 0, 0, 0, 0, 0,
+    1, 2, HV_GENERAL, 0, 3, 0, 0, 0,
+    1, 2, HV_GENERAL, 0, 1, 0, 0, 0,
+    2, HV_FILE, 1, 0, 0, 0, 0, 0,
+    2, HV_FILE, 1, 0, 0, 0, 0, 1,
+    2, HV_FILE, 1, 0, 0, 0, 0, 2,
+    2, HV_FILE, 1, 0, 0, 0, 0, 3,
+    2, HV_FILE, HV_UNSET, 0, 0, 0, 0, 0,
+};
+
+/* The sets of a set-up, read and written, and one that an unset level may not have. */
+static void sets_of_setups(void)
+{
+    uint8_t out[sizeof projects], damaged[sizeof projects];
+    hv_reading r = hv_read_setup(projects, sizeof projects);
+    expect(r.number == HV_ACCEPTED && r.facility.clearancesets[0] == 3 && r.facility.sets[3] == 3, "set-up with sets", r.number);
+    hv_writing w = hv_write_setup(r.facility, out, sizeof out);
+    expect(w.number == HV_ACCEPTED && memcmp(out, projects, sizeof projects) == 0, "set-up with sets, written", w.number);
+    memcpy(damaged, projects, sizeof projects);
+    damaged[sizeof projects - 1] = 1;
+    r = hv_read_setup(damaged, sizeof damaged);
+    expect(r.number == HV_SETUP_BYTE && r.index == 7, "a set with an unset level", r.number);
+}
+
+static void labels(void)
+{
+    const hv_label none = {0, 0}, whole = {15, HV_ALL_CATEGORIES}, first = {1, 1}, second = {1, 2}, both = {1, 3};
+    hv_facility f = hv_read_setup(projects, sizeof projects).facility;
+    labels_of(&f, (uint8_t[4]){HV_LOGIN, 0, 0, 0}, HV_ACCEPTED, none, none, whole, "labels at login");
+    labels_of(&f, (uint8_t[4]){HV_READ_OPEN, 0, 1, 0}, HV_ACCEPTED, first, first, whole, "a read of the first category");
+    labels_of(&f, (uint8_t[4]){HV_READ_OPEN, 0, 2, 0}, HV_ACCEPTED, both, both, whole, "a read of both categories");
+    expect(f.moves[0] == 2 && hv_most_moves(f, 0) == 5 && hv_most_moves(f, 1) == 4, "moves of the set", f.moves[0]);
+    labels_of(&f, (uint8_t[4]){HV_WRITE_OPEN, 0, 2, 0}, HV_DENIED, both, both, whole, "a write to one of both");
+    labels_of(&f, (uint8_t[4]){HV_CREATE, 0, 0, HV_CHANNEL}, HV_ACCEPTED, both, both, whole, "a create");
+    expect(label_is(hv_object(f, 5).label, 1, 3), "label of a created object", hv_object(f, 5).label.set);
+    labels_of(&f, (uint8_t[4]){HV_WRITE_OPEN, 0, 3, 0}, HV_ACCEPTED, both, both, both, "a write to both");
+    labels_of(&f, (uint8_t[4]){HV_LOGIN, 1, 0, 1}, HV_ACCEPTED, none, none, whole, "labels at a second login");
+    labels_of(&f, (uint8_t[4]){HV_READ_OPEN, 1, 2, 0}, HV_DENIED, none, none, whole, "a category that is not in the clearance");
+    labels_of(&f, (uint8_t[4]){HV_SET_LEVEL, 1, 2, 1}, HV_DENIED, none, none, whole, "set-level to a set that is not in the clearance");
+    labels_of(&f, (uint8_t[4]){HV_SET_LEVEL, 1, 1, 1}, HV_ACCEPTED, first, none, whole, "set-level with a set");
+    labels_of(&f, (uint8_t[4]){HV_SEND_SIGNAL, 1, 0, 0}, HV_DENIED, first, none, whole, "a signal at one level, of another set");
+    labels_of(&f, (uint8_t[4]){HV_LOGIN, 2, 0, 0}, HV_ACCEPTED, none, none, whole, "labels at a third login");
+    labels_of(&f, (uint8_t[4]){HV_WRITE_OPEN, 2, 3, 0}, HV_ACCEPTED, both, none, both, "a first write");
+    labels_of(&f, (uint8_t[4]){HV_READ_WRITE_OPEN, 2, 2, 0}, HV_ACCEPTED, second, second, second, "both marks");
+    signal_to(f, 1, 1, HV_ACCEPTED, 1, "signal to itself with a set");
+    signal_to(f, 1, 0, HV_DENIED, 0, "signal to another set");
+}
+
 /* The same calls by value and where the facility is: outcome and facility are the same, and the paddings stay. */
 static void both_ways(hv_facility f)
 {
     hv_facility g = f;
     for (int k = 0; k < 4000; k++) {
         uint8_t c[4] = {below(23), below(34), below(130), below(18)};
+        if (c[0] == HV_SET_LEVEL && below(2)) c[2] = below(4);   /* a set that there is */
         hv_outcome q = hv_query_at(&g, c[0], c[1], c[2], c[3]);
         hv_outcome o = hv_enforce_at(&g, c[0], c[1], c[2], c[3]);
         hv_enforced e = hv_enforce(f, c[0], c[1], c[2], c[3]);
@@ -395,6 +496,8 @@ int main(void)
     shield();
     signals();
     moves();
+    sets_of_setups();
+    labels();
     printf("layout: %d checks, %d differ\n", checks, failures);
     return failures != 0;
 }

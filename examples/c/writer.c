@@ -47,14 +47,15 @@ static size_t setup_of(const hv_facility *f, uint8_t *out)
     n += RECORD;
     for (int u = 0; u < f->users; u++, n += RECORD) {
         out[n] = 1;
-        if (u < HV_USERS) memcpy(out + n + 1, (uint8_t[]){f->clearances[u], f->roles[u], f->trusts[u]}, 3);
+        if (u < HV_USERS) memcpy(out + n + 1, (uint8_t[]){f->clearances[u], f->roles[u], f->trusts[u], f->clearancesets[u]}, 4);
     }
     for (int t = 0; t < f->entered && t < HV_OBJECTS; t++) {
         if (f->lives[t] != 1) continue;
         int parent = f->parents[t] - 1, number = 0;
         for (int k = 0; k < parent && k < HV_OBJECTS; k++) number += f->lives[k] == 1;
         int is = parent >= 0 && parent < HV_OBJECTS && f->lives[parent] == 1;
-        memcpy(out + n, (uint8_t[]){2, f->kinds[t], f->levels[t], f->categories[t], f->datatypes[t], f->flags[t], (uint8_t)(is ? number + 1 : 0)}, 7);
+        uint8_t written = (uint8_t)(is ? number + 1 : 0);
+        memcpy(out + n, (uint8_t[]){2, f->kinds[t], f->levels[t], f->categories[t], f->datatypes[t], f->flags[t], written, f->sets[t]}, RECORD);
         n += RECORD;
     }
     return n;
@@ -99,16 +100,16 @@ static uint8_t below(int n)
     return (uint8_t)((rand() >> 7) % n);
 }
 
-/* A facility of a set-up with so many users and objects, each object in a directory before it. */
+/* A facility of a set-up with so many users and objects, each object in a directory before it, with sets of categories. */
 static hv_facility fresh(int users, int objects)
 {
     uint8_t setup[HV_SETUP_MOST] = {3, 1, 1, 1, 1};
     size_t n = RECORD;
-    for (int u = 0; u < users; u++, n += RECORD) memcpy(setup + n, (uint8_t[]){1, (uint8_t)(u % 16), HV_GENERAL, (uint8_t)(u % 5 == 4)}, 4);
+    for (int u = 0; u < users; u++, n += RECORD) memcpy(setup + n, (uint8_t[]){1, (uint8_t)(u % 16), HV_GENERAL, (uint8_t)(u % 5 == 4), below(256)}, 5);
     for (int t = 0; t < objects; t++, n += RECORD) {
         uint8_t kind = t % 3 == 0 ? HV_DIRECTORY : t % 3 == 1 ? HV_FILE : HV_CHANNEL;
         uint8_t parent = (uint8_t)(t == 0 || kind == HV_CHANNEL ? 0 : 3 * below((t + 2) / 3) + 1);
-        memcpy(setup + n, (uint8_t[]){2, kind, (uint8_t)(t % 16), HV_GENERAL, 0, (uint8_t)(t % 2 ? HV_ADD_INHERITED : 0), parent}, 7);
+        memcpy(setup + n, (uint8_t[]){2, kind, (uint8_t)(t % 16), HV_GENERAL, 0, (uint8_t)(t % 2 ? HV_ADD_INHERITED : 0), parent, below(256)}, RECORD);
     }
     hv_reading r = hv_read_setup(setup, n);
     expect(r.number == HV_ACCEPTED, "set-up", "fresh", r.number);

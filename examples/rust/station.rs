@@ -1,10 +1,10 @@
-//! A window of the station in Rust: the same calls as examples/c/station.c, over the same library.
+//! A window of the station in Rust: calls like those of examples/c/station.c, over the same library.
 //! Build and run it with `examples/rust/build`.
 
 /// A facility: its bytes are the library's (include/hvozdalka.h names the fields).
 #[repr(C, align(4))]
 #[derive(Clone, Copy)]
-pub struct Facility([u8; 5340]);
+pub struct Facility([u8; 5580]);
 
 #[repr(C)]
 #[derive(Clone, Copy)]
@@ -26,32 +26,32 @@ pub struct Outcome {
     pub ff: u8,
 }
 
+/// A level and a set of categories, a bit for each.
+#[repr(C)]
+#[derive(Clone, Copy)]
+pub struct Label {
+    pub level: u8,
+    pub set: u8,
+}
+
 #[repr(C)]
 #[derive(Clone, Copy)]
 pub struct Process {
     pub running: u8,
     pub owner: u8,
-    pub current: u8,
-    pub readmark: u8,
-    pub writemark: u8,
+    pub current: Label,
+    pub readmark: Label,
+    pub writemark: Label,
     pub automatic: u8,
     pub moves: u8,
-}
-
-#[repr(C)]
-#[derive(Clone, Copy)]
-pub struct User {
-    pub clearance: u8,
-    pub role: u8,
-    pub trusted: u8,
 }
 
 extern "C" {
     fn hv_read_setup(bytes: *const u8, length: usize) -> Reading;
     fn hv_query_at(f: *const Facility, request: u8, process: u8, target: u8, extra: u8) -> Outcome;
     fn hv_enforce_at(f: *mut Facility, request: u8, process: u8, target: u8, extra: u8) -> Outcome;
-    fn hv_user(f: Facility, user: u8) -> User;
     fn hv_process(f: Facility, process: u8) -> Process;
+    fn hv_most_moves(f: Facility, user: u8) -> u32;
     fn hv_refusals(f: Facility, user: u8) -> u32;
     fn hv_flag_source(f: Facility, object: u8, flag: u8) -> u8;
 }
@@ -63,16 +63,31 @@ const NOT_GRANTED: u8 = 2;
 const READ_ONLY: u8 = 1;
 const NO_OBJECT: u8 = 255;
 
-/// MAC and FF on; one untrusted user of clearance 2; the open notes (level 0), the restricted hull lines (level 2), a directory of released
-/// drawings that is read-only (level 2), and a sheet in it, which inherits (add-inherited 128, parent 2 plus 1).
-const SETUP: [u8; 48] = [
+/// MAC and FF on; one untrusted user of clearance 2 with categories a and b; the open notes (level 0), the restricted hull lines (level 2), a
+/// directory of released drawings that is read-only (level 2), and a sheet in it, which inherits (add-inherited 128, parent 2 plus 1); the frames
+/// of two projects (level 2 with a, and with b).
+const SETUP: [u8; 64] = [
     3, 1, 0, 0, 1, 0, 0, 0, //
-    1, 2, 0, 0, 0, 0, 0, 0, //
+    1, 2, 0, 0, 3, 0, 0, 0, //
     2, 0, 0, 0, 0, 0, 0, 0, //
     2, 0, 2, 0, 0, 0, 0, 0, //
     2, 1, 2, 0, 0, 1, 0, 0, //
-    2, 0, 2, 0, 0, 128, 3, 0,
+    2, 0, 2, 0, 0, 128, 3, 0, //
+    2, 0, 2, 0, 0, 0, 0, 1, //
+    2, 0, 2, 0, 0, 0, 0, 2,
 ];
+
+impl std::fmt::Display for Label {
+    /// The level, and a letter for each category, or "all".
+    fn fmt(&self, out: &mut std::fmt::Formatter) -> std::fmt::Result {
+        let letters: String = (0..8).filter(|bit| self.set >> bit & 1 == 1).map(|bit| (b'a' + bit) as char).collect();
+        match self.set {
+            0 => write!(out, "{}", self.level),
+            255 => write!(out, "{} all", self.level),
+            _ => write!(out, "{} {letters}", self.level),
+        }
+    }
+}
 
 impl Facility {
     /// The fresh facility of a set-up, or the refusal number and the index of the record.
@@ -94,8 +109,9 @@ impl Facility {
         unsafe { hv_process(*self, process) }
     }
 
-    pub fn user(&self, user: u8) -> User {
-        unsafe { hv_user(*self, user) }
+    /// How often at most the label of a user's process moves by itself.
+    pub fn most_moves(&self, user: u8) -> u32 {
+        unsafe { hv_most_moves(*self, user) }
     }
 
     /// The object whose own flag it is that an object has among its effective ones.
@@ -123,19 +139,22 @@ fn main() {
         ("open the hull lines for reading", READ_OPEN, 1),
         ("open the notes for writing", WRITE_OPEN, 0),
         ("open the released sheet for writing", WRITE_OPEN, 3),
+        ("open the frames of project a for reading", READ_OPEN, 4),
+        ("open the frames of project b for reading", READ_OPEN, 5),
+        ("open the frames of project b for writing", WRITE_OPEN, 5),
     ] {
         let foretold = f.query(request, 0, target, 0);
         let outcome = f.enforce(request, 0, target, 0);
         assert_eq!(foretold, outcome);
         let p = f.process(0);
         println!(
-            "{words}: number {}; current level {}, read mark {}, write mark {}; moved {} times of at most {}",
+            "{words}: number {}; current {}, read mark {}, write mark {}; moved {} times of at most {}",
             outcome.number,
             p.current,
             p.readmark,
             p.writemark,
             p.moves,
-            f.user(p.owner).clearance + 1
+            f.most_moves(p.owner)
         );
         if outcome.ff == NOT_GRANTED {
             if let Some(source) = f.flag_source(target, READ_ONLY) {

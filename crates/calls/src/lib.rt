@@ -25,6 +25,9 @@ pub fn view_of(f: Facility, c: Call) -> View
         &f.writemarks,
         &f.automatics,
         &f.moves,
+        &f.currentsets,
+        &f.readsets,
+        &f.writesets,
         p,
     );
     let receiver = state::process_at(
@@ -35,9 +38,18 @@ pub fn view_of(f: Facility, c: Call) -> View
         &f.writemarks,
         &f.automatics,
         &f.moves,
+        &f.currentsets,
+        &f.readsets,
+        &f.writesets,
         t,
     );
-    let owner = state::user_at(&f.clearances, &f.roles, &f.trusts, caller.owner as usize);
+    let owner = state::user_at(
+        &f.clearances,
+        &f.roles,
+        &f.trusts,
+        &f.clearancesets,
+        caller.owner as usize,
+    );
     let object = state::object_at(
         &f.lives,
         &f.kinds,
@@ -46,11 +58,18 @@ pub fn view_of(f: Facility, c: Call) -> View
         &f.datatypes,
         &f.flags,
         &f.parents,
+        &f.sets,
         t,
     );
     let opens = labels::at(&f.opens, i);
     let flags = flags::seen_at(f.ff, &f.lives, &f.flags, &f.parents, t);
-    let other = state::user_at(&f.clearances, &f.roles, &f.trusts, receiver.owner as usize);
+    let other = state::user_at(
+        &f.clearances,
+        &f.roles,
+        &f.trusts,
+        &f.clearancesets,
+        receiver.owner as usize,
+    );
     View {
         switches: Switches {
             mac: f.mac,

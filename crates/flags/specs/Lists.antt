@@ -7,7 +7,7 @@ use Rattle.rules.specs.FileFlags.{parentOf, inherits}
 
 -- objects of which nothing but lives, flags and parents is looked at
 abbrev pub flagged : List ℕ → List ℕ → List ℕ → Objects
-flagged lives flags parents = objectsFrom lives [] [] [] [] flags parents
+flagged lives flags parents = objectsFrom lives [] [] [] [] flags parents []
 
 -- the parent that object t inherits from, as its number plus 1; 0 where it inherits from none
 unfoldable pub inheritsFrom : Objects → ℕ → ℕ

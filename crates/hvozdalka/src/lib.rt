@@ -7,10 +7,11 @@ ghost use Rattle.in_place.specs.Stores.{Becomes};
 ghost use Rattle.lines.specs.Blocks.{blockText, facilityAfter};
 ghost use Rattle.rules.specs.Calls.{after, enforce, query};
 ghost use Rattle.rules.specs.FileFlags.{effective, flagSource};
+ghost use Rattle.rules.specs.Histories.{movesBound};
 ghost use Rattle.rules.specs.Lines.{callsOf};
 ghost use Rattle.rules.specs.Matter.{holds};
 ghost use Rattle.rules.specs.Setup.{readSetup, writeSetup};
-ghost use Rattle.state.specs.State.{objectOf, objectsIn, processOf, refusalsOf, userOf};
+ghost use Rattle.state.specs.State.{clearanceOf, objectOf, objectsIn, processOf, refusalsOf, userOf};
 ghost use Rattle.text.specs.Stored.{Stored};
 use answers::Outcome;
 use answers::SetupOutcome;
@@ -297,6 +298,15 @@ pub extern "C" fn hv_refusals(f: Facility, u: u8) -> u32
     ensures { λ r. ⌜ r ≡ refusalsOf f u ⌝ }
 {
     labels::word_at(&f.refusals, u as usize)
+}
+
+// How often at most the level of a user's process moves by itself; 1 where there is no such user.
+#[no_mangle]
+pub extern "C" fn hv_most_moves(f: Facility, u: u8) -> u32
+    ensures { λ r. ⌜ r ≡ movesBound (clearanceOf f u) ⌝ }
+{
+    let user = f.user(u);
+    user.clearance.most_moves()
 }
 
 // The effective flags of an object, whether FF is on or off.

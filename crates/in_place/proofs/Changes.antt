@@ -11,7 +11,7 @@ use Rattle.state.specs.State.{putProcess, putOpens, changed, noProcess, termina
 use Rattle.state.specs.State.{processesIn, with, putObject, addObject, putRefusals, mostRefusals, mostUsers, refusalsOf, counted}
 use Rattle.in_place.specs.Layout.{fieldOf, facilityOf, facilityAt}
 use Rattle.in_place.specs.Layout.{size, offset, theOpens, wholeSize, theLives, theCategories, theDatatypes, theKinds, theLevels}
-use Rattle.in_place.specs.Layout.{theEntered, theRefusals, theFlags, theParents, words}
+use Rattle.in_place.specs.Layout.{theEntered, theRefusals, theFlags, theParents, theSets, words}
 use Rattle.in_place.specs.Stores.{storeField, storeIn, Becomes, storeProcess, storeObject, paddingIn}
 use Rattle.state.specs.declared.Facility.{Facility}
 use Rattle.in_place.proofs.Stores.{stored}
@@ -90,7 +90,8 @@ objectWith : (ℕ → List ℕ) → Object → ℕ → ℕ → Facility
 objectWith g o n entered =
     with (facilityOf g) (facilityOf g .users) (usersIn (facilityOf g)) entered
     (objectsFrom (set (g theLives) n (o .live)) (set (g theKinds) n (o .kind)) (set (g theLevels) n (o .label .level))
-    (set (g theCategories) n (o .category)) (set (g theDatatypes) n (o .datatype)) (set (g theFlags) n (o .flags)) (set (g theParents) n (o .parent)))
+    (set (g theCategories) n (o .category)) (set (g theDatatypes) n (o .datatype)) (set (g theFlags) n (o .flags)) (set (g theParents) n (o .parent))
+    (set (g theSets) n (o .label .set)))
     (processesIn (facilityOf g)) (g theOpens) (facilityOf g .refusals)
 
 pub added-is : (s m q : List ℕ) (o : Object) (n : ℕ) → length s ≡ wholeSize → n ≡ at (fieldOf s theEntered) 0 → n < mostObjects → fieldOf m ≡ storeObject

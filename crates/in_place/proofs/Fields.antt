@@ -13,7 +13,8 @@ use Rattle.in_place.specs.Stores.{storeField, storeIn, Becomes, paddingI
 use Rattle.in_place.specs.Layout.{size, offset, fieldOf, wholeSize, theRefusals, facilityAt, theMac, theFc, theSim, theUsers, theEntered}
 use Rattle.in_place.specs.Layout.{facilityOf, theOpens, thePadding, lastField, theClearances, theRoles, theTrusts, theLives, theKinds, theLevels}
 use Rattle.in_place.specs.Layout.{theCategories, theDatatypes, theRunnings, theOwners, theCurrents, theReadmarks, theWritemarks, theAutomatics}
-use Rattle.in_place.specs.Layout.{theFf, theFlags, theParents, theMoves, theLastPadding}
+use Rattle.in_place.specs.Layout.{theFf, theFlags, theParents, theMoves, theClearancesets, theSets, theCurrentsets, theReadsets, theWritesets}
+use Rattle.in_place.specs.Layout.{theLastPadding}
 use Rattle.in_place.proofs.Stores.{store-inside, stored, before, length-store}
 use Rattle.in_place.specs.Fields.{Fields, putField, BecomesUnique, countsPut, usersPut, objectsPut, processesPut}
 use Rattle.in_place.proofs.Changes.{field-length}
@@ -166,6 +167,11 @@ becomes-unique s m n f a b p q =
     let t = and-field m n theFlags t (ap (λ (x : Facility). x .flags) e) in
     let t = and-field m n theParents t (ap (λ (x : Facility). x .parents) e) in
     let t = and-field m n theMoves t (ap (λ (x : Facility). x .moves) e) in
+    let t = and-field m n theClearancesets t (ap (λ (x : Facility). x .clearancesets) e) in
+    let t = and-field m n theSets t (ap (λ (x : Facility). x .sets) e) in
+    let t = and-field m n theCurrentsets t (ap (λ (x : Facility). x .currentsets) e) in
+    let t = and-field m n theReadsets t (ap (λ (x : Facility). x .readsets) e) in
+    let t = and-field m n theWritesets t (ap (λ (x : Facility). x .writesets) e) in
     let t = and-field m n theLastPadding t last in
     sym (all-taken m wholeSize (omega arith)) ∙ t
     ∙ all-taken n wholeSize (omega arith)

@@ -7,7 +7,8 @@ use lib.Dec.{eqb}
 use lib.ListN.{length}
 use Rattle.in_place.specs.Layout.{fieldOf, wholeSize, theMac, theFc, theSim, theUsers, theEntered, theClearances, theRoles, theTrusts, theLives}
 use Rattle.in_place.specs.Layout.{theKinds, theLevels, theCategories, theDatatypes, theRunnings, theOwners, theCurrents, theReadmarks, theWritemarks}
-use Rattle.in_place.specs.Layout.{theAutomatics, theFf, theFlags, theParents, theMoves}
+use Rattle.in_place.specs.Layout.{theAutomatics, theFf, theFlags, theParents, theMoves, theClearancesets, theSets, theCurrentsets, theReadsets}
+use Rattle.in_place.specs.Layout.{theWritesets}
 use Rattle.state.specs.State.{Users, Objects, Processes}
 use Rattle.labels.specs.Decisions.{at}
 use Rattle.state.specs.declared.Facility.{Facility}
@@ -28,17 +29,20 @@ countsPut g mac fc sim ff users entered =
     theUsers (users ∷ [])) theEntered (entered ∷ [])
 
 abbrev pub usersPut : (ℕ → List ℕ) → Users → ℕ → List ℕ
-usersPut g x = putField (putField (putField g theClearances (x .clearances)) theRoles (x .roles)) theTrusts (x .trusts)
+usersPut g x =
+    putField (putField (putField (putField g theClearances (x .clearances)) theRoles (x .roles)) theTrusts (x .trusts))
+    theClearancesets (x .clearancesets)
 
 abbrev pub objectsPut : (ℕ → List ℕ) → Objects → ℕ → List ℕ
 objectsPut g x =
-    putField (putField (putField (putField (putField (putField (putField g theLives (x .lives)) theKinds (x .kinds)) theLevels (x .levels))
-    theCategories (x .categories)) theDatatypes (x .datatypes)) theFlags (x .flags)) theParents (x .parents)
+    putField (putField (putField (putField (putField (putField (putField (putField g theLives (x .lives)) theKinds (x .kinds)) theLevels (x .levels))
+    theCategories (x .categories)) theDatatypes (x .datatypes)) theFlags (x .flags)) theParents (x .parents)) theSets (x .sets)
 
 abbrev pub processesPut : (ℕ → List ℕ) → Processes → ℕ → List ℕ
 processesPut g x =
-    putField (putField (putField (putField (putField (putField (putField g theRunnings (x .runnings)) theOwners (x .owners))
-    theCurrents (x .currents)) theReadmarks (x .readmarks)) theWritemarks (x .writemarks)) theAutomatics (x .automatics)) theMoves (x .moves)
+    putField (putField (putField (putField (putField (putField (putField (putField (putField (putField g theRunnings (x .runnings)) theOwners (x .owners))
+    theCurrents (x .currents)) theReadmarks (x .readmarks)) theWritemarks (x .writemarks)) theAutomatics (x .automatics)) theMoves (x .moves))
+    theCurrentsets (x .currentsets)) theReadsets (x .readsets)) theWritesets (x .writesets)
 
 -- the bytes of a facility: as many as the struct has, each below 256
 pub record Bytes (m : List ℕ) : Type 0 where

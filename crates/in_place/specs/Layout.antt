@@ -11,7 +11,7 @@ use Rattle.state.specs.declared.Facility.{Facility}
 abbrev pub sizes : List ℕ
 sizes =
     1 ∷ 1 ∷ 1 ∷ 1 ∷ 16 ∷ 16 ∷ 16 ∷ 1 ∷ 128 ∷ 128 ∷ 128 ∷ 128 ∷ 128 ∷ 32 ∷ 32 ∷ 32 ∷ 32 ∷ 32 ∷ 32 ∷ 4096 ∷ 3 ∷ 64 ∷ 1 ∷ 128 ∷ 128
-    ∷ 32 ∷ 3 ∷ []
+    ∷ 32 ∷ 16 ∷ 128 ∷ 32 ∷ 32 ∷ 32 ∷ 3 ∷ []
 
 abbrev pub size : ℕ → ℕ
 size k = at sizes k
@@ -99,8 +99,23 @@ theParents = suc theFlags
 abbrev pub theMoves : ℕ
 theMoves = suc theParents
 
+abbrev pub theClearancesets : ℕ
+theClearancesets = suc theMoves
+
+abbrev pub theSets : ℕ
+theSets = suc theClearancesets
+
+abbrev pub theCurrentsets : ℕ
+theCurrentsets = suc theSets
+
+abbrev pub theReadsets : ℕ
+theReadsets = suc theCurrentsets
+
+abbrev pub theWritesets : ℕ
+theWritesets = suc theReadsets
+
 abbrev pub theLastPadding : ℕ
-theLastPadding = suc theMoves
+theLastPadding = suc theWritesets
 
 -- the last of them, and so the bytes of a facility
 abbrev pub lastField : ℕ
@@ -153,6 +168,11 @@ facilityOf g =
       flags = g theFlags;
       parents = g theParents;
       moves = g theMoves;
+      clearancesets = g theClearancesets;
+      sets = g theSets;
+      currentsets = g theCurrentsets;
+      readsets = g theReadsets;
+      writesets = g theWritesets;
     }
 
 -- the facility of bytes

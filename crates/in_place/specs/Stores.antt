@@ -8,6 +8,7 @@ use lib.ListN.{set}
 use Rattle.in_place.specs.Layout.{fieldOf, thePadding, theLastPadding, facilityAt, theCategories, theDatatypes, theKinds, theLevels, theLives}
 use Rattle.in_place.specs.Layout.{theFlags, theParents}
 use Rattle.in_place.specs.Layout.{theRunnings, theOwners, theCurrents, theReadmarks, theWritemarks, theAutomatics, theMoves}
+use Rattle.in_place.specs.Layout.{theSets, theCurrentsets, theReadsets, theWritesets}
 use Rattle.state.specs.declared.Process.{Process}
 use Rattle.state.specs.declared.Facility.{Facility}
 use Rattle.state.specs.declared.Object.{Object}
@@ -33,11 +34,13 @@ Becomes s m f = (facilityAt m ≡ f) × (padding m ≡ padding s)
 -- the stores of a process, and of an object
 abbrev pub storeProcess : (ℕ → List ℕ) → ℕ → Process → ℕ → List ℕ
 storeProcess g p r =
-    storeField (storeField (storeField (storeField (storeField (storeField (storeField g theRunnings p (r .running)) theOwners p (r .owner))
-    theCurrents p (r .current .level)) theReadmarks p (r .readmark .level)) theWritemarks p (r .writemark .level))
-    theAutomatics p (r .automatic)) theMoves p (r .moves)
+    storeField (storeField (storeField (storeField (storeField (storeField (storeField (storeField (storeField (storeField g theRunnings p (r .running))
+    theOwners p (r .owner)) theCurrents p (r .current .level)) theReadmarks p (r .readmark .level)) theWritemarks p (r .writemark .level))
+    theAutomatics p (r .automatic)) theMoves p (r .moves)) theCurrentsets p (r .current .set)) theReadsets p (r .readmark .set))
+    theWritesets p (r .writemark .set)
 
 abbrev pub storeObject : (ℕ → List ℕ) → ℕ → Object → ℕ → List ℕ
 storeObject g i o =
-    storeField (storeField (storeField (storeField (storeField (storeField (storeField g theLives i (o .live)) theKinds i (o .kind))
-    theLevels i (o .label .level)) theCategories i (o .category)) theDatatypes i (o .datatype)) theFlags i (o .flags)) theParents i (o .parent)
+    storeField (storeField (storeField (storeField (storeField (storeField (storeField (storeField g theLives i (o .live)) theKinds i (o .kind))
+    theLevels i (o .label .level)) theCategories i (o .category)) theDatatypes i (o .datatype)) theFlags i (o .flags)) theParents i (o .parent))
+    theSets i (o .label .set)

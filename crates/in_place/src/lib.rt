@@ -95,7 +95,17 @@ const PARENTS: u16 = FLAGS + OBJECT_COUNT;
 
 const MOVES: u16 = PARENTS + OBJECT_COUNT;
 
-const LAST_PADDING: u16 = MOVES + PROCESS_COUNT;
+const CLEARANCE_SETS: u16 = MOVES + PROCESS_COUNT;
+
+const SETS: u16 = CLEARANCE_SETS + USER_COUNT;
+
+const CURRENT_SETS: u16 = SETS + OBJECT_COUNT;
+
+const READ_SETS: u16 = CURRENT_SETS + PROCESS_COUNT;
+
+const WRITE_SETS: u16 = READ_SETS + PROCESS_COUNT;
+
+const LAST_PADDING: u16 = WRITE_SETS + PROCESS_COUNT;
 // Three more bytes of padding end the struct, whose size is a multiple of four.
 pub const SIZE: usize = (LAST_PADDING as usize) + 3;
 
@@ -110,11 +120,12 @@ fn byte_in(s: &[u8], from: u16, n: u16, i: u16) -> u8
     s[(from as usize) + (i as usize)]
 }
 
-fn label_in(s: &[u8], from: u16, n: u16, i: u16) -> Label
-    requires { ⌜ (length (now s) ≡ wholeSize) × (from + n ≤ wholeSize) ⌝ }
-    ensures { λ r. ⌜ r ≡ label (at (part (now (s .entry)) from n) i) ⌝ }
+// The label of which the level is byte i of a field, and the set byte i of another.
+fn label_in(s: &[u8], levels: u16, sets: u16, n: u16, i: u16) -> Label
+    requires { ⌜ (length (now s) ≡ wholeSize) × (levels + n ≤ wholeSize) × (sets + n ≤ wholeSize) ⌝ }
+    ensures { λ r. ⌜ r ≡ label (at (part (now (s .entry)) levels n) i) (at (part (now (s .entry)) sets n) i) ⌝ }
 {
-    Label::of(byte_in(s, from, n, i))
+    Label::of(byte_in(s, levels, n, i), byte_in(s, sets, n, i))
 }
 
 fn process_in(s: &[u8], p: u8) -> Process
@@ -125,9 +136,9 @@ fn process_in(s: &[u8], p: u8) -> Process
     Process {
         running: byte_in(s, RUNNINGS, PROCESS_COUNT, i),
         owner: byte_in(s, OWNERS, PROCESS_COUNT, i),
-        current: label_in(s, CURRENTS, PROCESS_COUNT, i),
-        readmark: label_in(s, READMARKS, PROCESS_COUNT, i),
-        writemark: label_in(s, WRITEMARKS, PROCESS_COUNT, i),
+        current: label_in(s, CURRENTS, CURRENT_SETS, PROCESS_COUNT, i),
+        readmark: label_in(s, READMARKS, READ_SETS, PROCESS_COUNT, i),
+        writemark: label_in(s, WRITEMARKS, WRITE_SETS, PROCESS_COUNT, i),
         automatic: byte_in(s, AUTOMATICS, PROCESS_COUNT, i),
         moves: byte_in(s, MOVES, PROCESS_COUNT, i),
     }
@@ -139,7 +150,7 @@ fn user_in(s: &[u8], u: u8) -> User
 {
     let i = u as u16;
     User {
-        clearance: label_in(s, CLEARANCES, USER_COUNT, i),
+        clearance: label_in(s, CLEARANCES, CLEARANCE_SETS, USER_COUNT, i),
         role: byte_in(s, ROLES, USER_COUNT, i),
         trusted: byte_in(s, TRUSTS, USER_COUNT, i),
     }
@@ -153,7 +164,7 @@ fn object_in(s: &[u8], t: u8) -> Object
     Object {
         live: byte_in(s, LIVES, OBJECT_COUNT, i),
         kind: byte_in(s, KINDS, OBJECT_COUNT, i),
-        label: label_in(s, LEVELS, OBJECT_COUNT, i),
+        label: label_in(s, LEVELS, SETS, OBJECT_COUNT, i),
         category: byte_in(s, CATEGORIES, OBJECT_COUNT, i),
         datatype: byte_in(s, DATATYPES, OBJECT_COUNT, i),
         flags: byte_in(s, FLAGS, OBJECT_COUNT, i),
@@ -292,6 +303,7 @@ fn write(s: &[u8], out: &mut [u8]) -> WriteOutcome
     let clearances = lent(s, CLEARANCES, USER_COUNT);
     let roles = lent(s, ROLES, USER_COUNT);
     let trusts = lent(s, TRUSTS, USER_COUNT);
+    let clearancesets = lent(s, CLEARANCE_SETS, USER_COUNT);
     let entered = byte_in(s, ENTERED, 1, 0);
     let lives = lent(s, LIVES, OBJECT_COUNT);
     let kinds = lent(s, KINDS, OBJECT_COUNT);
@@ -300,6 +312,7 @@ fn write(s: &[u8], out: &mut [u8]) -> WriteOutcome
     let datatypes = lent(s, DATATYPES, OBJECT_COUNT);
     let flags = lent(s, FLAGS, OBJECT_COUNT);
     let parents = lent(s, PARENTS, OBJECT_COUNT);
+    let sets = lent(s, SETS, OBJECT_COUNT);
     setup::write_parts(
         out,
         switches,
@@ -307,6 +320,7 @@ fn write(s: &[u8], out: &mut [u8]) -> WriteOutcome
         clearances,
         roles,
         trusts,
+        clearancesets,
         entered,
         lives,
         kinds,
@@ -315,6 +329,7 @@ fn write(s: &[u8], out: &mut [u8]) -> WriteOutcome
         datatypes,
         flags,
         parents,
+        sets,
     )
 }
 
@@ -352,6 +367,9 @@ fn put_process(s: &mut [u8], p: u8, r: Process)
     put_in(s, WRITEMARKS, PROCESS_COUNT, i, r.writemark.level);
     put_in(s, AUTOMATICS, PROCESS_COUNT, i, r.automatic);
     put_in(s, MOVES, PROCESS_COUNT, i, r.moves);
+    put_in(s, CURRENT_SETS, PROCESS_COUNT, i, r.current.set);
+    put_in(s, READ_SETS, PROCESS_COUNT, i, r.readmark.set);
+    put_in(s, WRITE_SETS, PROCESS_COUNT, i, r.writemark.set);
 }
 
 // The marks of process p on object t become v.
@@ -423,6 +441,7 @@ fn put_object(s: &mut [u8], i: u16, o: Object)
     put_in(s, DATATYPES, OBJECT_COUNT, i, o.datatype);
     put_in(s, FLAGS, OBJECT_COUNT, i, o.flags);
     put_in(s, PARENTS, OBJECT_COUNT, i, o.parent);
+    put_in(s, SETS, OBJECT_COUNT, i, o.label.set);
 }
 
 // The next object number is given to an object, where there is one.
@@ -582,14 +601,21 @@ fn put_counts(s: &mut [u8], mac: u8, fc: u8, sim: u8, ff: u8, users: u8, entered
     put_in(s, ENTERED, 1, 0, entered);
 }
 
-fn put_users<'a>(s: &mut [u8], clearances: &'a [u8], roles: &'a [u8], trusts: &'a [u8])
-    requires { ⌜ (length (now s) ≡ wholeSize) × UsersShaped (usersFrom (now clearances) (now roles) (now trusts)) ⌝ }
+fn put_users<'a>(
+    s: &mut [u8],
+    clearances: &'a [u8],
+    roles: &'a [u8],
+    trusts: &'a [u8],
+    clearancesets: &'a [u8],
+)
+    requires { ⌜ (length (now s) ≡ wholeSize) × UsersShaped (usersFrom (now clearances) (now roles) (now trusts) (now clearancesets)) ⌝ }
     ensures { λ x. ⌜ Fields (now (s .exit)) (usersPut (fieldOf (now (s .entry)))
-        (usersFrom (now (clearances .entry)) (now (roles .entry)) (now (trusts .entry)))) ⌝ }
+        (usersFrom (now (clearances .entry)) (now (roles .entry)) (now (trusts .entry)) (now (clearancesets .entry)))) ⌝ }
 {
     put_array(s, CLEARANCES, clearances);
     put_array(s, ROLES, roles);
     put_array(s, TRUSTS, trusts);
+    put_array(s, CLEARANCE_SETS, clearancesets);
 }
 
 fn put_objects<'a>(
@@ -601,12 +627,13 @@ fn put_objects<'a>(
     datatypes: &'a [u8],
     flags: &'a [u8],
     parents: &'a [u8],
+    sets: &'a [u8],
 )
     requires { ⌜ (length (now s) ≡ wholeSize) × ObjectsShaped (objectsFrom (now lives) (now kinds) (now levels) (now categories) (now datatypes)
-        (now flags) (now parents)) ⌝ }
+        (now flags) (now parents) (now sets)) ⌝ }
     ensures { λ x. ⌜ Fields (now (s .exit)) (objectsPut (fieldOf (now (s .entry)))
         (objectsFrom (now (lives .entry)) (now (kinds .entry)) (now (levels .entry)) (now (categories .entry)) (now (datatypes .entry))
-        (now (flags .entry)) (now (parents .entry)))) ⌝ }
+        (now (flags .entry)) (now (parents .entry)) (now (sets .entry)))) ⌝ }
 {
     put_array(s, LIVES, lives);
     put_array(s, KINDS, kinds);
@@ -615,6 +642,7 @@ fn put_objects<'a>(
     put_array(s, DATATYPES, datatypes);
     put_array(s, FLAGS, flags);
     put_array(s, PARENTS, parents);
+    put_array(s, SETS, sets);
 }
 
 fn put_processes<'a>(
@@ -626,12 +654,15 @@ fn put_processes<'a>(
     writemarks: &'a [u8],
     automatics: &'a [u8],
     moves: &'a [u8],
+    currentsets: &'a [u8],
+    readsets: &'a [u8],
+    writesets: &'a [u8],
 )
     requires { ⌜ (length (now s) ≡ wholeSize) × ProcessesShaped (processesFrom (now runnings) (now owners) (now currents) (now readmarks) (now writemarks)
-        (now automatics) (now moves)) ⌝ }
+        (now automatics) (now moves) (now currentsets) (now readsets) (now writesets)) ⌝ }
     ensures { λ x. ⌜ Fields (now (s .exit)) (processesPut (fieldOf (now (s .entry)))
         (processesFrom (now (runnings .entry)) (now (owners .entry)) (now (currents .entry)) (now (readmarks .entry)) (now (writemarks .entry))
-        (now (automatics .entry)) (now (moves .entry)))) ⌝ }
+        (now (automatics .entry)) (now (moves .entry)) (now (currentsets .entry)) (now (readsets .entry)) (now (writesets .entry)))) ⌝ }
 {
     put_array(s, RUNNINGS, runnings);
     put_array(s, OWNERS, owners);
@@ -640,6 +671,9 @@ fn put_processes<'a>(
     put_array(s, WRITEMARKS, writemarks);
     put_array(s, AUTOMATICS, automatics);
     put_array(s, MOVES, moves);
+    put_array(s, CURRENT_SETS, currentsets);
+    put_array(s, READ_SETS, readsets);
+    put_array(s, WRITE_SETS, writesets);
 }
 
 // The counters of all users.
@@ -660,7 +694,7 @@ fn store(f: Facility, s: &mut [u8])
     ensures { λ x. ⌜ Becomes (now (s .entry)) (now (s .exit)) f ⌝ }
 {
     put_counts(s, f.mac, f.fc, f.sim, f.ff, f.users, f.entered);
-    put_users(s, &f.clearances, &f.roles, &f.trusts);
+    put_users(s, &f.clearances, &f.roles, &f.trusts, &f.clearancesets);
     put_objects(
         s,
         &f.lives,
@@ -670,6 +704,7 @@ fn store(f: Facility, s: &mut [u8])
         &f.datatypes,
         &f.flags,
         &f.parents,
+        &f.sets,
     );
     put_processes(
         s,
@@ -680,6 +715,9 @@ fn store(f: Facility, s: &mut [u8])
         &f.writemarks,
         &f.automatics,
         &f.moves,
+        &f.currentsets,
+        &f.readsets,
+        &f.writesets,
     );
     put_array(s, OPENS, &f.opens);
     put_counters(s, &f.refusals);

@@ -1,5 +1,5 @@
-// Labels: what levels, marks and clearances are compared by; and the decisions that all other crates are made of.
-ghost use Prim.Native.Nat.{min};
+// Labels: what levels, marks and clearances are compared by, levels with categories; and the decisions that all other crates are made of.
+ghost use Prim.Native.Nat.{_+_, min};
 ghost use mathlib.Core.Path.{_≡_};
 ghost use Rattle.labels.specs.Decisions.{ask, at};
 ghost use Rattle.labels.specs.Labels.{label, leq, same, join, meet, given, rank};
@@ -7,40 +7,52 @@ ghost use Rattle.labels.specs.Labels.{label, leq, same, join, meet, give
 // The byte of a level or a category that is unset.
 pub const UNSET: u8 = 255;
 
+// The set of all eight categories.
+pub const ALL_CATEGORIES: u8 = 255;
+
 // What levels, marks and clearances are compared by. Only the operations on labels look inside.
 #[repr(C)]
 pub struct Label {
     pub level: u8,
+    // Eight categories, a bit each.
+    pub set: u8,
 }
 
 impl Label {
-    pub fn of(level: u8) -> Label
-        ensures { λ r. ⌜ r ≡ label level ⌝ }
+    pub fn of(level: u8, set: u8) -> Label
+        ensures { λ r. ⌜ r ≡ label level set ⌝ }
     {
-        Label { level }
+        Label { level, set }
     }
 
-    // The other label is at least this one.
+    // The other label dominates this one.
     pub fn at_most(self, other: Label) -> bool
         ensures { λ r. ⌜ r ≡ leq self other ⌝ }
     {
-        other.level >= self.level
+        (self.level <= other.level) & ((self.set | other.set) == other.set)
     }
 
     pub fn same(self, other: Label) -> bool
         ensures { λ r. ⌜ r ≡ same self other ⌝ }
     {
-        self.level == other.level
+        (self.level == other.level) & (self.set == other.set)
     }
 
     // The least label above both.
     pub fn join(self, other: Label) -> Label
         ensures { λ r. ⌜ r ≡ join self other ⌝ }
     {
+        let set = self.set | other.set;
         if other.level < self.level {
-            self
+            Label {
+                level: self.level,
+                set,
+            }
         } else {
-            other
+            Label {
+                level: other.level,
+                set,
+            }
         }
     }
 
@@ -48,10 +60,17 @@ impl Label {
     pub fn meet(self, other: Label) -> Label
         ensures { λ r. ⌜ r ≡ meet self other ⌝ }
     {
+        let set = self.set & other.set;
         if self.level <= other.level {
-            self
+            Label {
+                level: self.level,
+                set,
+            }
         } else {
-            other
+            Label {
+                level: other.level,
+                set,
+            }
         }
     }
 
@@ -62,11 +81,11 @@ impl Label {
         self.level != UNSET
     }
 
-    // How high the label stands.
-    pub fn rank(self) -> u32
-        ensures { λ r. ⌜ r ≡ rank self ⌝ }
+    // How often at most the level of a process moves whose owner has this clearance: the level, the number of its categories, and 1.
+    pub fn most_moves(self) -> u32
+        ensures { λ r. ⌜ r ≡ rank self + 1 ⌝ }
     {
-        self.level as u32
+        (self.level as u32) + u8::count_ones(self.set) + 1
     }
 }
 

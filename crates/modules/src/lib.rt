@@ -21,7 +21,8 @@ fn may_read(l: Label, r: Process, clr: Label) -> bool
     ensures { λ x. ⌜ x ≡ mayRead l r clr ⌝ }
 {
     let below = l.at_most(r.current);
-    let free = l.at_most(r.writemark) & l.at_most(clr);
+    let above = r.current.join(l);
+    let free = above.at_most(r.writemark) & above.at_most(clr);
     below | ((r.automatic == 1) & free)
 }
 
@@ -123,7 +124,7 @@ fn move_by(k: Class, l: Label, r: Process) -> Process
     }
 }
 
-// How often the level of r has moved by itself once R, W or B make it l.
+// How often the label of r has moved by itself once R, W or B make it l.
 fn moves_to(l: Label, r: Process) -> u8
     ensures { λ x. ⌜ x ≡ movesTo l r ⌝ }
 {
@@ -136,7 +137,7 @@ fn moves_to(l: Label, r: Process) -> u8
     r.moves
 }
 
-// The process after R, W or B, with this current level and these marks.
+// The process after R, W or B, with this current label and these marks.
 fn moved_to(mut r: Process, current: Label, readmark: Label, writemark: Label) -> Process
     ensures { λ x. ⌜ x ≡ movedTo r current readmark writemark ⌝ }
 {
@@ -189,11 +190,11 @@ fn mac_target(v: View, c: Call) -> Answer
     mac_object(class_in(v, c), v.target.object, v.caller, v.owner)
 }
 
-// The label that set-level asks for.
+// The label that set-level asks for: the level e, and the set from t.
 fn wanted(c: Call) -> Label
     ensures { λ x. ⌜ x ≡ wanted c ⌝ }
 {
-    Label::of(c.extra)
+    Label::of(c.extra, c.target)
 }
 
 fn mac_set_level(v: View, c: Call) -> Answer
@@ -308,7 +309,7 @@ fn read_mark_raised(mut r: Process) -> Process
     r
 }
 
-// The receiver after an accepted signal: with MAC on, and its owner not trusted, its read mark becomes its current level.
+// The receiver after an accepted signal: with MAC on, and its owner not trusted, its read mark becomes its current label.
 pub fn signalled(v: View) -> Process
     ensures { λ x. ⌜ x ≡ signalled v ⌝ }
 {

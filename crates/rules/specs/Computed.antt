@@ -2,12 +2,13 @@
 use Prim.Native.Nat.{ℕ, zero, suc}
 use mathlib.Core.List.{List, [], _∷_, _++_, map}
 use Rattle.rules.specs.Types.{Answer, Answers, Call, Facility}
+use lib.Count.{ones}
 use Rattle.labels.specs.Decisions.{_and_, _or_, ask, at}
 use Rattle.answers.specs.Outcomes.{denies, answersFrom, outcomeOf, numberOf, answersOf}
 use Rattle.state.specs.State.{processIn, objectIn, userIn, opensOf, freshProcess, noProcess, blank, putProcess, putOpens, putUser, putObject, addUser}
 use Rattle.state.specs.State.{addObject, dropObject, putRefusals, counted, openBy, refusalsOf}
 use Rattle.opens.specs.Opens.{markPlace, reading, writing, addModes}
-use Rattle.labels.specs.Labels.{leq, same, join, meet, bottom, top, given, rank}
+use Rattle.labels.specs.Labels.{Label, label, within, leq, same, join, meet, bottom, top, given, rank}
 use Rattle.answers.specs.Answers.{code, grant, passes}
 use Rattle.rules.specs.Requests.{actionOf, files, directories, channels, controlData, listOf, classAmong, classOf, openChange}
 use Rattle.rules.specs.FileFlags.{has, hasParent, inherits, effectiveIn, forbidding, sourceIn}
@@ -27,7 +28,7 @@ use Rattle.rules.specs.Lines.{decimalIn, levelText, callLine, callsOf, c
 
 -- Whoever unfolds one of these unfolds the definitions of its section.
 unfoldable pub labelsComputed : ℕ
-unfolding _and_ _or_ ask leq same join meet bottom top given rank
+unfolding _and_ _or_ ask ones within leq same join meet bottom top given rank
 labelsComputed = 0
 
 unfoldable pub outcomesComputed : ℕ
@@ -111,6 +112,10 @@ numbersFrom f (c ∷ cs) = numberOf (query f c) ∷ numbersFrom (after f c) cs
 abbrev pub call : ℕ → ℕ → ℕ → ℕ → Call
 call r p t e = record { request = r; process = p; target = t; extra = e }
 
+-- the label of a level with no category
+abbrev pub level : ℕ → Label
+level n = label n 0
+
 -- set-up records
 abbrev pub switches : ℕ → ℕ → ℕ → List ℕ
 switches mac fc sim = 3 ∷ mac ∷ fc ∷ sim ∷ 0 ∷ 0 ∷ 0 ∷ 0 ∷ []
@@ -119,14 +124,21 @@ abbrev pub user : ℕ → ℕ → ℕ → List ℕ
 user clearance role trusted = 1 ∷ clearance ∷ role ∷ trusted ∷ 0 ∷ 0 ∷ 0 ∷ 0 ∷ []
 
 abbrev pub object : ℕ → ℕ → ℕ → ℕ → List ℕ
-object kind level category datatype = 2 ∷ kind ∷ level ∷ category ∷ datatype ∷ 0 ∷ 0 ∷ 0 ∷ []
+object kind lev category datatype = 2 ∷ kind ∷ lev ∷ category ∷ datatype ∷ 0 ∷ 0 ∷ 0 ∷ []
+
+-- a user and an object with categories
+abbrev pub categorizedUser : ℕ → ℕ → List ℕ
+categorizedUser clearance set = 1 ∷ clearance ∷ 0 ∷ 0 ∷ set ∷ 0 ∷ 0 ∷ 0 ∷ []
+
+abbrev pub categorizedObject : ℕ → ℕ → ℕ → List ℕ
+categorizedObject kind lev set = 2 ∷ kind ∷ lev ∷ 0 ∷ 0 ∷ 0 ∷ 0 ∷ set ∷ []
 
 -- with the fourth switch, and with flags and a parent
 abbrev pub switchesWith : ℕ → ℕ → List ℕ
 switchesWith mac ff = 3 ∷ mac ∷ 0 ∷ 0 ∷ ff ∷ 0 ∷ 0 ∷ 0 ∷ []
 
 abbrev pub flaggedObject : ℕ → ℕ → ℕ → ℕ → List ℕ
-flaggedObject kind level flags parent = 2 ∷ kind ∷ level ∷ 0 ∷ 0 ∷ flags ∷ parent ∷ 0 ∷ []
+flaggedObject kind lev flags parent = 2 ∷ kind ∷ lev ∷ 0 ∷ 0 ∷ flags ∷ parent ∷ 0 ∷ []
 
 -- 0, 1, .. up to n numbers
 abbrev pub numbersBelow : ℕ → List ℕ
@@ -141,6 +153,10 @@ codes a = code (a .mac) ∷ code (a .fc) ∷ code (a .sim) ∷ code (a .combined
 abbrev pub processBytes : Facility → ℕ → List ℕ
 processBytes f p =
     at (f .runnings) p ∷ at (f .owners) p ∷ at (f .currents) p ∷ at (f .readmarks) p ∷ at (f .writemarks) p ∷ at (f .automatics) p ∷ []
+
+-- its categories: of the current level, of the read mark, of the write mark
+abbrev pub categoryBytes : Facility → ℕ → List ℕ
+categoryBytes f p = at (f .currentsets) p ∷ at (f .readsets) p ∷ at (f .writesets) p ∷ []
 
 -- for object t: live, kind, level, category, data type
 abbrev pub objectBytes : Facility → ℕ → List ℕ

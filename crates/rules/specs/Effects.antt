@@ -18,7 +18,7 @@ firstFlags e = cond (inDirectory e) addInherited 0
 unfoldable pub firstParent : ℕ → ℕ → ℕ
 firstParent e t = cond (inDirectory e and ltb t mostObjects) (t + 1) 0
 
--- an object of kind e, level the process's current one, category general, data type none
+-- an object of kind e, label the process's current one, category general, data type none
 abbrev pub created : Process → ℕ → ℕ → Object
 created r e t =
     record {

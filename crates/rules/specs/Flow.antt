@@ -22,7 +22,7 @@ pub record Above (b a : Label) : Type 0 where
   pub above : a ⊑ b
 
 -- First half: for every set-up with MAC on, FC, SIM and FF on or off, and every list without a trusted login, b holds the matter of
--- another object a only when its level, after the list, is at least a's. Created and deleted objects are included.
+-- another object a only when its label, after the list, dominates a's. Created and deleted objects are included.
 -- (A refused set-up has MAC off, so `s` is an accepted one.)
 abbrev pub OnlyWhen : Type 0
 OnlyWhen =
@@ -52,7 +52,7 @@ pub record Carries (s : List ℕ) (u a b : ℕ) : Type 0 where
   pub untrusted : trustedLogins (fresh s) calls ≡ false
   pub holding : holds s calls b a ≡ true
 
--- User u is untrusted and cleared for a and b: the level of each is set and at most u's clearance.
+-- User u is untrusted and cleared for a and b: the level of each is set, and u's clearance dominates its label.
 pub record Cleared (s : List ℕ) (u a b : ℕ) : Type 0 where
   pub user : isUser (fresh s) u ≡ true
   pub untrusted : trustedUser (fresh s) u ≡ false
@@ -67,7 +67,7 @@ pub record MacAlone (s : Switches) : Type 0 where
   pub ff : on (s .ff) ≡ false
 
 -- Second half: for every set-up with MAC on alone, objects a and b of it, of any kind, and an untrusted user cleared for both,
--- there is a list, with logins of this user alone, by which b comes to hold the matter of a exactly when b's level is at least a's.
+-- there is a list, with logins of this user alone, by which b comes to hold the matter of a exactly when b's label dominates a's.
 abbrev pub ExactlyWhen : Type 0
 ExactlyWhen =
     (s : List ℕ) → MacAlone (switchesOf (fresh s))

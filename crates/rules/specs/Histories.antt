@@ -44,7 +44,7 @@ ownerAfter [] p = 0
 ownerAfter (x ∷ xs) p =
     cond (isStart x p) (x .call .extra) (cond (isCloning x p) (ownerAfter xs (x .call .process)) (ownerAfter xs p))
 
--- the current level of process p, and whether a call is of class R, W or B
+-- the current label of process p, and whether a call is of class R, W or B
 abbrev pub currentOf : Facility → ℕ → Label
 currentOf f p = (processOf f p) .current
 
@@ -52,7 +52,7 @@ unfoldable pub ofClass : Facility → Call → Bool
 ofClass f c =
     needsObject (actionOf (c .request)) (c .extra) and (observes (classIn (viewOf f c) c) or alters (classIn (viewOf f c) c))
 
--- whether a step is a move of process p: an accepted R, W or B of p's own that changed its current level
+-- whether a step is a move of process p: an accepted R, W or B of p's own that changed its current label, the level or the set
 unfoldable pub isMove : Step → ℕ → Bool
 isMove x p =
     accepted (x .before) (x .call) and eqb (x .call .process) p and ofClass (x .before) (x .call)
@@ -64,7 +64,7 @@ movesOf [] p = 0
 movesOf (x ∷ xs) p =
     cond (isStart x p) 0 (cond (isCloning x p) (movesOf xs (x .call .process)) (cond (isMove x p) 1 0 + movesOf xs p))
 
--- how many moves there are at most where the owner has this clearance: the clearance plus 1
+-- how many moves there are at most where the owner has this clearance: its level plus its number of categories plus 1
 abbrev pub movesBound : Label → ℕ
 movesBound clearance = rank clearance + 1
 

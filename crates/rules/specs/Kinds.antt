@@ -3,15 +3,15 @@ pub use Rattle.rules.specs.declared.SetupRecord.{SetupRecord}
 pub use Rattle.rules.specs.declared.Byte.{Byte}
 pub use Rattle.rules.specs.declared.Byte.the-variants.{Zero, Upto, OrUnset, Bits}
 pub use Rattle.rules.specs.declared.Also.{Also}
-pub use Rattle.rules.specs.declared.Also.the-variants.{Nothing}
+pub use Rattle.rules.specs.declared.Also.the-variants.{Nothing, SetNeedsLevel}
 pub use Rattle.rules.specs.declared.Kind.{Kind}
 use Prim.Native.Nat.{ℕ, _+_, _-_}
-use mathlib.Core.Bool.{Bool, true, false, cond}
+use mathlib.Core.Bool.{Bool, true, false, not, cond}
 use mathlib.Core.List.{List, [], _∷_}
 use lib.Bits.{bitAnd}
 use lib.Dec.{leb, ltb, eqb}
 use Rattle.labels.specs.Decisions.{_and_, _or_, ask, asked}
-use Rattle.labels.specs.Labels.{unset}
+use Rattle.labels.specs.Labels.{unset, allCategories}
 use Rattle.state.specs.State.{mostUsers}
 use Rattle.opens.specs.Opens.{mostObjects}
 use Rattle.rules.specs.FileFlags.{allFlags}
@@ -32,7 +32,7 @@ switchesKind =
       also = Nothing;
     }
 
--- "1 user: byte 1 clearance 0..15, byte 2 role 0, 1 or 2, byte 3 trusted 0 or 1"
+-- "1 user: byte 1 clearance 0..15, byte 2 role 0, 1 or 2, byte 3 trusted 0 or 1"; "byte 4 is the clearance's set"
 abbrev pub usersKind : Kind
 usersKind =
     record {
@@ -41,7 +41,7 @@ usersKind =
       one = Upto 15;
       two = Upto 2;
       three = Upto 1;
-      four = Zero;
+      four = Upto allCategories;
       five = Zero;
       six = Zero;
       seven = Zero;
@@ -49,7 +49,8 @@ usersKind =
     }
 
 -- "2 object: byte 1 kind 0..3, byte 2 level 0..15 or 255 unset, byte 3 category 0, 1, 2 or 255 unset, byte 4 data type 0 or 1"; "byte 5 has
--- flags, other bits must be 0; byte 6 is the parent directory's number plus 1, or 0 for none", which 19 asks
+-- flags, other bits must be 0; byte 6 is the parent directory's number plus 1, or 0 for none", which 19 asks; "byte 7 the object's set, which must
+-- be 0 where the level is unset"
 abbrev pub objectsKind : Kind
 objectsKind =
     record {
@@ -61,8 +62,8 @@ objectsKind =
       four = Upto 1;
       five = Bits allFlags;
       six = Upto 255;
-      seven = Zero;
-      also = Nothing;
+      seven = Upto allCategories;
+      also = SetNeedsLevel;
     }
 
 -- any other byte 0 is of no kind: it has no place
@@ -111,6 +112,7 @@ byteAllowed (Bits n) b = eqb (bitAnd b n) b
 
 abbrev pub alsoAllowed : Also → SetupRecord → Bool
 alsoAllowed Nothing r = true
+alsoAllowed SetNeedsLevel r = not (eqb (r .two) unset) or eqb (r .seven) 0
 
 unfoldable pub allowedBy : Kind → SetupRecord → Bool
 allowedBy d r =

@@ -45,21 +45,22 @@ viewOf f c =
 abbrev pub classIn : View → Call → Class
 classIn v c = classOf (c .request) (v .target .object .kind)
 
--- the label that set-level asks for
+-- the label that set-level asks for: the level e, and the set from t
 abbrev pub wanted : Call → Label
-wanted c = label (c .extra)
+wanted c = label (c .extra) (c .target)
 
--- MAC. l is the object's label, r the process, clr the clearance of its owner.
--- R: granted if L ≤ current, or automatic and L ≤ write mark and L ≤ clr
+-- MAC. l is the object's label, r the process, clr the clearance of its owner; a ≤ b says that b dominates a.
+-- R: granted without a move if L ≤ current, and otherwise if automatic and the least label above both stays ≤ write mark and ≤ clr
 unfoldable pub mayRead : Label → Process → Label → Bool
-mayRead l r clr = leq l (r .current) or (isAutomatic r and leq l (r .writemark) and leq l clr)
+mayRead l r clr =
+    leq l (r .current) or (isAutomatic r and leq (join (r .current) l) (r .writemark) and leq (join (r .current) l) clr)
 
 -- W: granted if L = current, or automatic and read mark ≤ L ≤ write mark and L ≤ clr
 unfoldable pub mayWrite : Label → Process → Label → Bool
 mayWrite l r clr =
     same l (r .current) or (isAutomatic r and leq (r .readmark) l and leq l (r .writemark) and leq l clr)
 
--- set-level: granted if read mark ≤ e ≤ write mark and e ≤ clr
+-- set-level: granted if read mark ≤ L ≤ write mark and L ≤ clr, where L is the label that it asks for
 unfoldable pub maySet : Label → Process → Label → Bool
 maySet l r clr = leq (r .readmark) l and leq l (r .writemark) and leq l clr
 
@@ -76,7 +77,7 @@ unfoldable pub macObject : Class → Object → Process → User → Answer
 macObject k o r u =
     cond (given (o .label)) (cond (on (u .trusted)) Granted (macClass k (o .label) r (u .clearance))) Undefined
 
--- send-signal: granted to a trusted owner, and if both current levels are equal
+-- send-signal: granted to a trusted owner, and if both current labels are equal
 unfoldable pub macSignal : Process → User → Process → Answer
 macSignal r u receiver = grant (on (u .trusted) or same (r .current) (receiver .current))
 
@@ -124,11 +125,11 @@ ffAnswer k v c =
 unfoldable pub answers : Action → View → Call → Answers
 answers k v c = answersFrom (macAnswer k v c) (fcAnswer k v c) (simAnswer k v c) (ffAnswer k v c)
 
--- how often the level of r has moved by itself once R, W or B make it l: once more where that is a change
+-- how often the label of r has moved by itself once R, W or B make it l: once more where that is a change
 abbrev pub movesTo : Label → Process → ℕ
 movesTo l r = cond (same l (r .current)) (r .moves) (oneMore mostMoves (r .moves))
 
--- r after R, W or B, with this current level and these marks
+-- r after R, W or B, with this current label and these marks
 abbrev pub movedTo : Process → Label → Label → Label → Process
 movedTo r current readmark writemark = withLevels r current readmark writemark (r .automatic) (movesTo current r)
 
@@ -141,11 +142,11 @@ moveBy Writes l r = movedTo r l (r .readmark) (meet (r .writemark) l)
 moveBy Both l r = movedTo r l l l
 moveBy NoCondition l r = r
 
--- set-level: current becomes e, automatic goes off for good; no move by itself, so none is counted
+-- set-level: current becomes the label that it asks for, automatic goes off for good; no move by itself, so none is counted
 unfoldable pub setLevel : Label → Process → Process
 setLevel l r = withLevels r l (r .readmark) (r .writemark) 0 (r .moves)
 
--- the caller after an accepted call on an object: with MAC off, or a trusted owner, marks and current level are untouched
+-- the caller after an accepted call on an object: with MAC off, or a trusted owner, marks and current label are untouched
 unfoldable pub moved : View → Call → Process
 moved v c =
     cond (on (v .switches .mac) and not (on (v .owner .trusted))) (moveBy (classIn v c) (v .target .object .label) (v .caller)) (v .caller)
@@ -154,11 +155,11 @@ moved v c =
 unfoldable pub levelled : View → Call → Process
 levelled v c = cond (on (v .switches .mac)) (setLevel (wanted c) (v .caller)) (v .caller)
 
--- r with its read mark at its current level
+-- r with its read mark at its current label
 abbrev pub readMarkRaised : Process → Process
 readMarkRaised r = withLevels r (r .current) (r .current) (r .writemark) (r .automatic) (r .moves)
 
--- the receiver after an accepted signal: with MAC on, and its owner not trusted, its read mark becomes its current level; else it is as it was
+-- the receiver after an accepted signal: with MAC on, and its owner not trusted, its read mark becomes its current label; else it is as it was
 unfoldable pub signalled : View → Process
 signalled v =
     cond (on (v .switches .mac) and not (on (v .target .owner .trusted))) (readMarkRaised (v .target .receiver)) (v .target .receiver)

@@ -157,11 +157,12 @@ pub record AcceptedSignal (f : Facility) (c : Call) : Type 0 where
 abbrev pub receiverOwner : Facility → Call → ℕ
 receiverOwner f c = (processOf f (c .target)) .owner
 
--- f with the read mark of process p at p's current level, and nothing else changed
+-- f with the read mark of process p at p's current label, and nothing else changed
 abbrev pub withReadMarkRaised : Facility → ℕ → Facility
 withReadMarkRaised f p =
     with f (f .users) (usersIn f) (f .entered) (objectsIn f)
-    (processesFrom (f .runnings) (f .owners) (f .currents) (set (f .readmarks) p (at (f .currents) p)) (f .writemarks) (f .automatics) (f .moves))
+    (processesFrom (f .runnings) (f .owners) (f .currents) (set (f .readmarks) p (at (f .currents) p)) (f .writemarks) (f .automatics) (f .moves)
+    (f .currentsets) (set (f .readsets) p (at (f .currentsets) p)) (f .writesets))
     (f .opens) (f .refusals)
 
 -- the account after a call that is enforced on f
@@ -170,13 +171,13 @@ accountBy a f c = afterEntry a (record { call = c; accepted = accepted f c })
 
 -- Ticket 4, signals with a value (Proofs/Signals): an accepted signal, from any facility and with any account.
 pub record Signals : Type 0 where
-  -- with MAC on, the read mark of a receiver whose owner is not trusted becomes its current level, and nothing else changes
+  -- with MAC on, the read mark of a receiver whose owner is not trusted becomes its current label, and nothing else changes
   pub raises : (f : Facility) (c : Call) → AcceptedSignal f c → on (f .mac) ≡ true → trustedUser f (receiverOwner f c) ≡ false
       → after f c ≡ withReadMarkRaised f (c .target)
   -- with MAC off, or a receiver whose owner is trusted, nothing changes
   pub off : (f : Facility) (c : Call) → AcceptedSignal f c → on (f .mac) ≡ false → after f c ≡ f
   pub trusted : (f : Facility) (c : Call) → AcceptedSignal f c → trustedUser f (receiverOwner f c) ≡ true → after f c ≡ f
-  -- with MAC on, a sender whose owner is not trusted has the receiver's current level
+  -- with MAC on, a sender whose owner is not trusted has the receiver's current label
   pub level : (f : Facility) (c : Call) → AcceptedSignal f c → on (f .mac) ≡ true → trustedUser f (ownerIn f c) ≡ false
       → (processOf f (c .process)) .current ≡ (processOf f (c .target)) .current
   -- the receiver holds what it held and what the sender held; every other process and every object hold what they held
@@ -191,7 +192,7 @@ pub record Moves : Type 0 where
   -- the number that it carries is that of the moves in its history
   pub counted : (s : List ℕ) (cs : List Call) (p : ℕ) → runs (run (fresh s) cs) p ≡ true
       → (processOf (run (fresh s) cs) p) .moves ≡ movesOf (past (fresh s) cs []) p
-  -- these are at most one more than the clearance, by the set-up, of the user who owns it, by the history
+  -- these are at most one more than the rank of the clearance, by the set-up, of the user who owns it, by the history
   pub bounded : (s : List ℕ) (cs : List Call) (p : ℕ) → runs (run (fresh s) cs) p ≡ true
       → movesOf (past (fresh s) cs []) p ≤ movesBound (clearanceOf (fresh s) (ownerAfter (past (fresh s) cs []) p))
   -- and so is the number that it carries

@@ -63,14 +63,14 @@ abbrev pub switchesEntered : SetupRecord → Switches
 switchesEntered r = record { mac = r .one; fc = r .two; sim = r .three; ff = r .four }
 
 abbrev pub userEntered : SetupRecord → User
-userEntered r = record { clearance = label (r .one); role = r .two; trusted = r .three }
+userEntered r = record { clearance = label (r .one) (r .four); role = r .two; trusted = r .three }
 
 abbrev pub objectEntered : SetupRecord → Object
 objectEntered r =
     record {
       live = 1;
       kind = r .one;
-      label = label (r .two);
+      label = label (r .two) (r .seven);
       category = r .three;
       datatype = r .four;
       flags = r .five;
@@ -126,7 +126,7 @@ userRecord u =
       one = u .clearance .level;
       two = u .role;
       three = u .trusted;
-      four = 0;
+      four = u .clearance .set;
       five = 0;
       six = 0;
       seven = 0;
@@ -142,7 +142,7 @@ objectRecord o =
       four = o .datatype;
       five = o .flags;
       six = o .parent;
-      seven = 0;
+      seven = o .label .set;
     }
 
 -- the items of the numbers below n that a test admits, in rising order

@@ -66,6 +66,8 @@ pub enum Byte {
 // What is asked of a record's bytes together, beside what each may be.
 pub enum Also {
     Nothing,
+    // Byte 7, a set of categories, is 0 where byte 2, a level, is unset.
+    SetNeedsLevel,
 }
 
 // A kind of set-up records: its place in the order, how many there may be, and what bytes 1 to 7 may be.

@@ -9,9 +9,7 @@ use lib.ListN.{length}
 use native.Mathlib.Omega.{arith}
 use borrow.Author.Tests.{eq-eqb, ne-eqb}
 use Rattle.rules.specs.declared.SetupRecord.{SetupRecord}
-use Rattle.rules.specs.declared.Also.{Also}
-use Rattle.rules.specs.declared.Also.the-variants.{Nothing}
-use Rattle.rules.specs.Kinds.{alsoAllowed, countOf, kindOf, placeOf, fits, room, allowedBy, allowed, parentFits, recordNumber}
+use Rattle.rules.specs.Kinds.{countOf, kindOf, placeOf, fits, room, allowedBy, allowed, parentFits, recordNumber}
 use Rattle.rules.specs.Proofs.Fresh.{Told}
 use Rattle.state.specs.declared.Facility.{Facility}
 use Rattle.state.specs.State.{objectIn}
@@ -20,10 +18,6 @@ use Rattle.labels.specs.Laws.Decisions.{by-test, by-eq}
 use Rattle.setup.specs.Progress.{countAfter, fitsAfter, numberAfter, parentFitsIn, progressAfter}
 use Rattle.rules.specs.Proofs.Past.{InOrder, order-none, count-same, order-more}
 use Rattle.labels.specs.Decisions.{_and_, _or_, ask, at}
-
--- of these kinds nothing is asked of the bytes together
-pub nothing-asked : (a : Also) (r : SetupRecord) → alsoAllowed a r ≡ true
-nothing-asked Nothing r = refl
 
 pub count-most-after : (p : Progress) (kind : ℕ) → countAfter p kind ≤ p .count
 count-most-after p kind = by-test (eqb (p .kind) kind) (λ e. rw e (omega arith)) (λ e. rw e (omega arith))

@@ -47,7 +47,7 @@ liveRecord x o = map objectRecord (cond (on (o .live)) (renumbered x o ∷ []) [
 
 -- objects of which only the live ones are told: new numbers look at nothing else
 abbrev pub livesOnly : List ℕ → Objects
-livesOnly l = objectsFrom l [] [] [] [] [] []
+livesOnly l = objectsFrom l [] [] [] [] [] [] []
 
 -- the facility of these switches, users and objects, in which nothing has run yet: of a facility the writer looks at no more
 abbrev pub facilityWith : Switches → ℕ → Users → ℕ → Objects → Facility

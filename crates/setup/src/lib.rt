@@ -77,7 +77,7 @@ fn users_kind() -> Kind
         one: Byte::Upto(15),
         two: Byte::Upto(2),
         three: Byte::Upto(1),
-        four: Byte::Zero,
+        four: Byte::Upto(labels::ALL_CATEGORIES),
         five: Byte::Zero,
         six: Byte::Zero,
         seven: Byte::Zero,
@@ -100,8 +100,8 @@ fn objects_kind() -> Kind
         four: Byte::Upto(1),
         five: Byte::Bits(ALL_FLAGS),
         six: Byte::Upto(255),
-        seven: Byte::Zero,
-        also: Also::Nothing,
+        seven: Byte::Upto(labels::ALL_CATEGORIES),
+        also: Also::SetNeedsLevel,
     }
 }
 
@@ -177,6 +177,7 @@ fn also_allowed(also: Also, r: SetupRecord) -> bool
 {
     match also {
         Also::Nothing => true,
+        Also::SetNeedsLevel => (r.two != labels::UNSET) | (r.seven == 0),
     }
 }
 
@@ -254,7 +255,10 @@ fn user_entered(r: SetupRecord) -> User
     ensures { λ x. ⌜ x ≡ userEntered r ⌝ }
 {
     User {
-        clearance: Label { level: r.one },
+        clearance: Label {
+            level: r.one,
+            set: r.four,
+        },
         role: r.two,
         trusted: r.three,
     }
@@ -266,7 +270,10 @@ fn object_entered(r: SetupRecord) -> Object
     Object {
         live: 1,
         kind: r.one,
-        label: Label { level: r.two },
+        label: Label {
+            level: r.two,
+            set: r.seven,
+        },
         category: r.three,
         datatype: r.four,
         flags: r.five,
@@ -356,7 +363,7 @@ fn user_record(u: User) -> SetupRecord
         one: u.clearance.level,
         two: u.role,
         three: u.trusted,
-        four: 0,
+        four: u.clearance.set,
         five: 0,
         six: 0,
         seven: 0,
@@ -374,7 +381,7 @@ fn object_record(o: Object) -> SetupRecord
         four: o.datatype,
         five: o.flags,
         six: o.parent,
-        seven: 0,
+        seven: o.label.set,
     }
 }
 
@@ -405,16 +412,17 @@ fn put_users<'a>(
     clearances: &'a [u8],
     roles: &'a [u8],
     trusts: &'a [u8],
+    clearancesets: &'a [u8],
     n: u8,
 ) -> usize
     requires { ⌜ start ≤ 65536 ⌝ }
     ensures { λ x. ⌜ Stored (now (out .entry)) start
-        (userRecords n (usersFrom (now (clearances .entry)) (now (roles .entry)) (now (trusts .entry)))) (now (out .exit)) x ⌝ }
+        (userRecords n (usersFrom (now (clearances .entry)) (now (roles .entry)) (now (trusts .entry)) (now (clearancesets .entry)))) (now (out .exit)) x ⌝ }
 {
     let mut place = start;
     let mut k: u8 = 0;
     while k < n {
-        let u = state::user_at(clearances, roles, trusts, k as usize);
+        let u = state::user_at(clearances, roles, trusts, clearancesets, k as usize);
         let r = user_record(u);
         place = put_record(out, place, r);
         k += 1;
@@ -484,12 +492,13 @@ fn put_objects<'a>(
     datatypes: &'a [u8],
     flags: &'a [u8],
     parents: &'a [u8],
+    sets: &'a [u8],
     n: u8,
 ) -> usize
     requires { ⌜ start ≤ 65536 ⌝ }
     ensures { λ x. ⌜ Stored (now (out .entry)) start
         (objectRecords n (objectsFrom (now (lives .entry)) (now (kinds .entry)) (now (levels .entry)) (now (categories .entry)) (now (datatypes .entry))
-        (now (flags .entry)) (now (parents .entry)))) (now (out .exit)) x ⌝ }
+        (now (flags .entry)) (now (parents .entry)) (now (sets .entry)))) (now (out .exit)) x ⌝ }
 {
     let mut place = start;
     let mut k: u8 = 0;
@@ -502,6 +511,7 @@ fn put_objects<'a>(
             datatypes,
             flags,
             parents,
+            sets,
             k as usize,
         );
         place = put_live(out, place, lives, o);
@@ -518,6 +528,7 @@ fn put_sections<'a>(
     clearances: &'a [u8],
     roles: &'a [u8],
     trusts: &'a [u8],
+    clearancesets: &'a [u8],
     entered: u8,
     lives: &'a [u8],
     kinds: &'a [u8],
@@ -526,16 +537,18 @@ fn put_sections<'a>(
     datatypes: &'a [u8],
     flags: &'a [u8],
     parents: &'a [u8],
+    sets: &'a [u8],
 ) -> usize
     ensures { λ x. ⌜ Stored (now (out .entry)) 0
-        (setupRecords (facilityWith switches users (usersFrom (now (clearances .entry)) (now (roles .entry)) (now (trusts .entry))) entered
+        (setupRecords (facilityWith switches users
+        (usersFrom (now (clearances .entry)) (now (roles .entry)) (now (trusts .entry)) (now (clearancesets .entry))) entered
         (objectsFrom (now (lives .entry)) (now (kinds .entry)) (now (levels .entry)) (now (categories .entry)) (now (datatypes .entry))
-        (now (flags .entry)) (now (parents .entry)))))
+        (now (flags .entry)) (now (parents .entry)) (now (sets .entry)))))
         (now (out .exit)) x ⌝ }
 {
     let first = switches_record(switches);
     let second = put_record(out, 0, first);
-    let objects = put_users(out, second, clearances, roles, trusts, users);
+    let objects = put_users(out, second, clearances, roles, trusts, clearancesets, users);
     put_objects(
         out,
         objects,
@@ -546,6 +559,7 @@ fn put_sections<'a>(
         datatypes,
         flags,
         parents,
+        sets,
         entered,
     )
 }
@@ -559,6 +573,7 @@ pub fn write_parts<'a>(
     clearances: &'a [u8],
     roles: &'a [u8],
     trusts: &'a [u8],
+    clearancesets: &'a [u8],
     entered: u8,
     lives: &'a [u8],
     kinds: &'a [u8],
@@ -567,16 +582,17 @@ pub fn write_parts<'a>(
     datatypes: &'a [u8],
     flags: &'a [u8],
     parents: &'a [u8],
+    sets: &'a [u8],
 ) -> WriteOutcome
     ensures { λ x. ⌜ x ≡ (writeSetup
-        (facilityWith switches users (usersFrom (now (clearances .entry)) (now (roles .entry)) (now (trusts .entry))) entered
+        (facilityWith switches users (usersFrom (now (clearances .entry)) (now (roles .entry)) (now (trusts .entry)) (now (clearancesets .entry))) entered
         (objectsFrom (now (lives .entry)) (now (kinds .entry)) (now (levels .entry)) (now (categories .entry)) (now (datatypes .entry))
-        (now (flags .entry)) (now (parents .entry))))
+        (now (flags .entry)) (now (parents .entry)) (now (sets .entry))))
         (now (out .entry))) .outcome ⌝ }
     ensures { λ x. ⌜ now (out .exit) ≡ (writeSetup
-        (facilityWith switches users (usersFrom (now (clearances .entry)) (now (roles .entry)) (now (trusts .entry))) entered
+        (facilityWith switches users (usersFrom (now (clearances .entry)) (now (roles .entry)) (now (trusts .entry)) (now (clearancesets .entry))) entered
         (objectsFrom (now (lives .entry)) (now (kinds .entry)) (now (levels .entry)) (now (categories .entry)) (now (datatypes .entry))
-        (now (flags .entry)) (now (parents .entry))))
+        (now (flags .entry)) (now (parents .entry)) (now (sets .entry))))
         (now (out .entry))) .buffer ⌝ }
 {
     let need = put_sections(
@@ -586,6 +602,7 @@ pub fn write_parts<'a>(
         clearances,
         roles,
         trusts,
+        clearancesets,
         entered,
         lives,
         kinds,
@@ -594,6 +611,7 @@ pub fn write_parts<'a>(
         datatypes,
         flags,
         parents,
+        sets,
     );
     if out.len() < need {
         return WriteOutcome::NoRoom;
@@ -605,6 +623,7 @@ pub fn write_parts<'a>(
         clearances,
         roles,
         trusts,
+        clearancesets,
         entered,
         lives,
         kinds,
@@ -613,6 +632,7 @@ pub fn write_parts<'a>(
         datatypes,
         flags,
         parents,
+        sets,
     );
     WriteOutcome::Written { length }
 }
@@ -635,6 +655,7 @@ pub fn write_setup(f: Facility, out: &mut [u8]) -> WriteOutcome
         &f.clearances,
         &f.roles,
         &f.trusts,
+        &f.clearancesets,
         f.entered,
         &f.lives,
         &f.kinds,
@@ -643,5 +664,6 @@ pub fn write_setup(f: Facility, out: &mut [u8]) -> WriteOutcome
         &f.datatypes,
         &f.flags,
         &f.parents,
+        &f.sets,
     )
 }

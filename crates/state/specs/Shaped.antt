@@ -9,6 +9,7 @@ pub record UsersShaped (x : Users) : Type 0 where
   pub clearances : length (x .clearances) ≡ mostUsers
   pub roles : length (x .roles) ≡ mostUsers
   pub trusts : length (x .trusts) ≡ mostUsers
+  pub clearancesets : length (x .clearancesets) ≡ mostUsers
 
 pub record ObjectsShaped (x : Objects) : Type 0 where
   pub lives : length (x .lives) ≡ mostObjects
@@ -18,6 +19,7 @@ pub record ObjectsShaped (x : Objects) : Type 0 where
   pub datatypes : length (x .datatypes) ≡ mostObjects
   pub flags : length (x .flags) ≡ mostObjects
   pub parents : length (x .parents) ≡ mostObjects
+  pub sets : length (x .sets) ≡ mostObjects
 
 pub record ProcessesShaped (x : Processes) : Type 0 where
   pub runnings : length (x .runnings) ≡ mostProcesses
@@ -27,6 +29,9 @@ pub record ProcessesShaped (x : Processes) : Type 0 where
   pub writemarks : length (x .writemarks) ≡ mostProcesses
   pub automatics : length (x .automatics) ≡ mostProcesses
   pub moves : length (x .moves) ≡ mostProcesses
+  pub currentsets : length (x .currentsets) ≡ mostProcesses
+  pub readsets : length (x .readsets) ≡ mostProcesses
+  pub writesets : length (x .writesets) ≡ mostProcesses
 
 pub record Shaped (f : Facility) : Type 0 where
   pub users : UsersShaped (usersIn f)

@@ -36,6 +36,7 @@ pub record Users : Type 0 where
   pub clearances : List ℕ
   pub roles : List ℕ
   pub trusts : List ℕ
+  pub clearancesets : List ℕ
 
 pub record Objects : Type 0 where
   pub lives : List ℕ
@@ -45,6 +46,7 @@ pub record Objects : Type 0 where
   pub datatypes : List ℕ
   pub flags : List ℕ
   pub parents : List ℕ
+  pub sets : List ℕ
 
 pub record Processes : Type 0 where
   pub runnings : List ℕ
@@ -54,24 +56,41 @@ pub record Processes : Type 0 where
   pub writemarks : List ℕ
   pub automatics : List ℕ
   pub moves : List ℕ
+  pub currentsets : List ℕ
+  pub readsets : List ℕ
+  pub writesets : List ℕ
 
-abbrev pub usersFrom : List ℕ → List ℕ → List ℕ → Users
-usersFrom a b c = record { clearances = a; roles = b; trusts = c }
+abbrev pub usersFrom : List ℕ → List ℕ → List ℕ → List ℕ → Users
+usersFrom a b c d = record { clearances = a; roles = b; trusts = c; clearancesets = d }
 
-abbrev pub objectsFrom : List ℕ → List ℕ → List ℕ → List ℕ → List ℕ → List ℕ → List ℕ → Objects
-objectsFrom a b c d e f g = record { lives = a; kinds = b; levels = c; categories = d; datatypes = e; flags = f; parents = g }
+abbrev pub objectsFrom : List ℕ → List ℕ → List ℕ → List ℕ → List ℕ → List ℕ → List ℕ → List ℕ → Objects
+objectsFrom a b c d e f g h = record { lives = a; kinds = b; levels = c; categories = d; datatypes = e; flags = f; parents = g; sets = h }
 
-abbrev pub processesFrom : List ℕ → List ℕ → List ℕ → List ℕ → List ℕ → List ℕ → List ℕ → Processes
-processesFrom a b c d e f g = record { runnings = a; owners = b; currents = c; readmarks = d; writemarks = e; automatics = f; moves = g }
+abbrev pub processesFrom : List ℕ → List ℕ → List ℕ → List ℕ → List ℕ → List ℕ → List ℕ → List ℕ → List ℕ → List ℕ → Processes
+processesFrom a b c d e f g h i j =
+    record {
+      runnings = a;
+      owners = b;
+      currents = c;
+      readmarks = d;
+      writemarks = e;
+      automatics = f;
+      moves = g;
+      currentsets = h;
+      readsets = i;
+      writesets = j;
+    }
 
 abbrev pub usersIn : Facility → Users
-usersIn f = usersFrom (f .clearances) (f .roles) (f .trusts)
+usersIn f = usersFrom (f .clearances) (f .roles) (f .trusts) (f .clearancesets)
 
 abbrev pub objectsIn : Facility → Objects
-objectsIn f = objectsFrom (f .lives) (f .kinds) (f .levels) (f .categories) (f .datatypes) (f .flags) (f .parents)
+objectsIn f = objectsFrom (f .lives) (f .kinds) (f .levels) (f .categories) (f .datatypes) (f .flags) (f .parents) (f .sets)
 
 abbrev pub processesIn : Facility → Processes
-processesIn f = processesFrom (f .runnings) (f .owners) (f .currents) (f .readmarks) (f .writemarks) (f .automatics) (f .moves)
+processesIn f =
+    processesFrom (f .runnings) (f .owners) (f .currents) (f .readmarks) (f .writemarks) (f .automatics) (f .moves) (f .currentsets) (f .readsets)
+    (f .writesets)
 
 -- What is read off a facility: process p, object t and user u, out of their arrays.
 unfoldable pub processIn : Processes → ℕ → Process
@@ -79,9 +98,9 @@ processIn x p =
     record {
       running = at (x .runnings) p;
       owner = at (x .owners) p;
-      current = label (at (x .currents) p);
-      readmark = label (at (x .readmarks) p);
-      writemark = label (at (x .writemarks) p);
+      current = label (at (x .currents) p) (at (x .currentsets) p);
+      readmark = label (at (x .readmarks) p) (at (x .readsets) p);
+      writemark = label (at (x .writemarks) p) (at (x .writesets) p);
       automatic = at (x .automatics) p;
       moves = at (x .moves) p;
     }
@@ -91,7 +110,7 @@ objectIn x t =
     record {
       live = at (x .lives) t;
       kind = at (x .kinds) t;
-      label = label (at (x .levels) t);
+      label = label (at (x .levels) t) (at (x .sets) t);
       category = at (x .categories) t;
       datatype = at (x .datatypes) t;
       flags = at (x .flags) t;
@@ -101,7 +120,7 @@ objectIn x t =
 unfoldable pub userIn : Users → ℕ → User
 userIn x u =
     record {
-      clearance = label (at (x .clearances) u);
+      clearance = label (at (x .clearances) u) (at (x .clearancesets) u);
       role = at (x .roles) u;
       trusted = at (x .trusts) u;
     }
@@ -180,6 +199,11 @@ with f users us entered os ps opens refusals =
       flags = os .flags;
       parents = os .parents;
       moves = ps .moves;
+      clearancesets = us .clearancesets;
+      sets = os .sets;
+      currentsets = ps .currentsets;
+      readsets = ps .readsets;
+      writesets = ps .writesets;
     }
 
 -- The ways in which a facility changes: a process, the opens, a new user, a new object, a dropped object, the counters.
@@ -193,7 +217,10 @@ putProcess f p r =
     (set (f .readmarks) p (r .readmark .level))
     (set (f .writemarks) p (r .writemark .level))
     (set (f .automatics) p (r .automatic))
-    (set (f .moves) p (r .moves)))
+    (set (f .moves) p (r .moves))
+    (set (f .currentsets) p (r .current .set))
+    (set (f .readsets) p (r .readmark .set))
+    (set (f .writesets) p (r .writemark .set)))
     (f .opens) (f .refusals)
 
 unfoldable pub putOpens : Facility → List ℕ → Facility
@@ -210,7 +237,8 @@ putUser f u =
     (usersFrom
     (set (f .clearances) (f .users) (u .clearance .level))
     (set (f .roles) (f .users) (u .role))
-    (set (f .trusts) (f .users) (u .trusted)))
+    (set (f .trusts) (f .users) (u .trusted))
+    (set (f .clearancesets) (f .users) (u .clearance .set)))
     (f .entered) (objectsIn f) (processesIn f) (f .opens) (f .refusals)
 
 -- the object with the next number
@@ -224,7 +252,8 @@ putObject f o =
     (set (f .categories) (f .entered) (o .category))
     (set (f .datatypes) (f .entered) (o .datatype))
     (set (f .flags) (f .entered) (o .flags))
-    (set (f .parents) (f .entered) (o .parent)))
+    (set (f .parents) (f .entered) (o .parent))
+    (set (f .sets) (f .entered) (o .label .set)))
     (processesIn f) (f .opens) (f .refusals)
 
 -- one more user, and one more object, where there is room
@@ -238,7 +267,7 @@ addObject f o = cond (ltb (f .entered) mostObjects) (putObject f o) f
 unfoldable pub dropObject : Facility → ℕ → Facility
 dropObject f t =
     with f (f .users) (usersIn f) (f .entered)
-    (objectsFrom (set (f .lives) t 0) (f .kinds) (f .levels) (f .categories) (f .datatypes) (f .flags) (f .parents))
+    (objectsFrom (set (f .lives) t 0) (f .kinds) (f .levels) (f .categories) (f .datatypes) (f .flags) (f .parents) (f .sets))
     (processesIn f) (f .opens) (f .refusals)
 
 unfoldable pub putRefusals : Facility → List ℕ → Facility
@@ -252,7 +281,7 @@ oneMore most n = cond (ltb n most) (n + 1) n
 unfoldable pub counted : Facility → ℕ → Facility
 counted f u = putRefusals f (set (f .refusals) u (oneMore mostRefusals (refusalsOf f u)))
 
--- login: current 0, read mark 0, write mark 15, automatic on, no move yet
+-- login: current 0, read mark 0, write mark 15 with all categories, automatic on, no move yet
 unfoldable pub freshProcess : ℕ → Process
 freshProcess u =
     record { running = 1; owner = u; current = bottom; readmark = bottom; writemark = top; automatic = 1; moves = 0 }
@@ -342,4 +371,9 @@ blank s =
       flags = replicate mostObjects 0;
       parents = replicate mostObjects 0;
       moves = replicate mostProcesses 0;
+      clearancesets = replicate mostUsers 0;
+      sets = replicate mostObjects 0;
+      currentsets = replicate mostProcesses 0;
+      readsets = replicate mostProcesses 0;
+      writesets = replicate mostProcesses 0;
     }

@@ -42,7 +42,7 @@ pub struct Process {
     pub readmark: Label,
     pub writemark: Label,
     pub automatic: u8,
-    // How often its level moved by itself: by R, W or B, not by set-level.
+    // How often its current label moved by itself: by R, W or B, not by set-level.
     pub moves: u8,
 }
 
@@ -144,12 +144,17 @@ pub struct Facility {
     pub opens: [u8; PAIRS],
     // Calls refused with 12 or 13, by user: the owner of the calling process. Each up to 4,294,967,295.
     pub refusals: [u32; USERS],
-    // What came later stands behind, so that no earlier field moves: the fourth switch, objects' flags and parents by object number, and how
-    // often the level of each process moved by itself.
+    // What came later stands behind, so that no earlier field moves: the fourth switch, objects' flags and parents by object number, how often
+    // the label of each process moved by itself, and the sets of clearances, objects, current labels and marks.
     pub ff: u8,
     pub flags: [u8; OBJECTS],
     pub parents: [u8; OBJECTS],
     pub moves: [u8; PROCESSES],
+    pub clearancesets: [u8; USERS],
+    pub sets: [u8; OBJECTS],
+    pub currentsets: [u8; PROCESSES],
+    pub readsets: [u8; PROCESSES],
+    pub writesets: [u8; PROCESSES],
 }
 
 impl Process {
@@ -163,9 +168,12 @@ impl Process {
         Process {
             running: 1,
             owner,
-            current: Label { level: 0 },
-            readmark: Label { level: 0 },
-            writemark: Label { level: Self::TOP },
+            current: Label { level: 0, set: 0 },
+            readmark: Label { level: 0, set: 0 },
+            writemark: Label {
+                level: Self::TOP,
+                set: labels::ALL_CATEGORIES,
+            },
             automatic: 1,
             moves: 0,
         }
@@ -178,20 +186,20 @@ impl Process {
         Process {
             running: 0,
             owner: 0,
-            current: Label { level: 0 },
-            readmark: Label { level: 0 },
-            writemark: Label { level: 0 },
+            current: Label { level: 0, set: 0 },
+            readmark: Label { level: 0, set: 0 },
+            writemark: Label { level: 0, set: 0 },
             automatic: 0,
             moves: 0,
         }
     }
 }
 
-// The label of a level byte of an array.
-fn label_at(levels: &[u8], i: usize) -> Label
-    ensures { λ r. ⌜ r ≡ label (at (now (levels .entry)) i) ⌝ }
+// The label of a level byte of an array and a byte of categories of another.
+fn label_at<'a>(levels: &'a [u8], sets: &'a [u8], i: usize) -> Label
+    ensures { λ r. ⌜ r ≡ label (at (now (levels .entry)) i) (at (now (sets .entry)) i) ⌝ }
 {
-    Label::of(labels::at(levels, i))
+    Label::of(labels::at(levels, i), labels::at(sets, i))
 }
 
 // Process p out of the arrays of a facility, which are lent and not copied; so with object t and user u.
@@ -203,14 +211,18 @@ pub fn process_at<'a>(
     writemarks: &'a [u8],
     automatics: &'a [u8],
     moves: &'a [u8],
+    currentsets: &'a [u8],
+    readsets: &'a [u8],
+    writesets: &'a [u8],
     p: usize,
 ) -> Process
     ensures { λ r. ⌜ r ≡ processIn (processesFrom (now (runnings .entry)) (now (owners .entry)) (now (currents .entry)) (now (readmarks .entry))
-        (now (writemarks .entry)) (now (automatics .entry)) (now (moves .entry))) p ⌝ }
+        (now (writemarks .entry)) (now (automatics .entry)) (now (moves .entry)) (now (currentsets .entry)) (now (readsets .entry)) (now (writesets .entry)))
+        p ⌝ }
 {
-    let current = label_at(currents, p);
-    let readmark = label_at(readmarks, p);
-    let writemark = label_at(writemarks, p);
+    let current = label_at(currents, currentsets, p);
+    let readmark = label_at(readmarks, readsets, p);
+    let writemark = label_at(writemarks, writesets, p);
     Process {
         running: labels::at(runnings, p),
         owner: labels::at(owners, p),
@@ -230,12 +242,13 @@ pub fn object_at<'a>(
     datatypes: &'a [u8],
     flags: &'a [u8],
     parents: &'a [u8],
+    sets: &'a [u8],
     t: usize,
 ) -> Object
     ensures { λ r. ⌜ r ≡ objectIn (objectsFrom (now (lives .entry)) (now (kinds .entry)) (now (levels .entry)) (now (categories .entry))
-        (now (datatypes .entry)) (now (flags .entry)) (now (parents .entry))) t ⌝ }
+        (now (datatypes .entry)) (now (flags .entry)) (now (parents .entry)) (now (sets .entry))) t ⌝ }
 {
-    let label = label_at(levels, t);
+    let label = label_at(levels, sets, t);
     Object {
         live: labels::at(lives, t),
         kind: labels::at(kinds, t),
@@ -247,10 +260,16 @@ pub fn object_at<'a>(
     }
 }
 
-pub fn user_at<'a>(clearances: &'a [u8], roles: &'a [u8], trusts: &'a [u8], u: usize) -> User
-    ensures { λ r. ⌜ r ≡ userIn (usersFrom (now (clearances .entry)) (now (roles .entry)) (now (trusts .entry))) u ⌝ }
+pub fn user_at<'a>(
+    clearances: &'a [u8],
+    roles: &'a [u8],
+    trusts: &'a [u8],
+    clearancesets: &'a [u8],
+    u: usize,
+) -> User
+    ensures { λ r. ⌜ r ≡ userIn (usersFrom (now (clearances .entry)) (now (roles .entry)) (now (trusts .entry)) (now (clearancesets .entry))) u ⌝ }
 {
-    let clearance = label_at(clearances, u);
+    let clearance = label_at(clearances, clearancesets, u);
     User {
         clearance,
         role: labels::at(roles, u),
@@ -322,6 +341,11 @@ impl Facility {
             flags: [0; OBJECTS],
             parents: [0; OBJECTS],
             moves: [0; PROCESSES],
+            clearancesets: [0; USERS],
+            sets: [0; OBJECTS],
+            currentsets: [0; PROCESSES],
+            readsets: [0; PROCESSES],
+            writesets: [0; PROCESSES],
         }
     }
 
@@ -339,6 +363,9 @@ impl Facility {
             self.writemarks[i] = r.writemark.level;
             self.automatics[i] = r.automatic;
             self.moves[i] = r.moves;
+            self.currentsets[i] = r.current.set;
+            self.readsets[i] = r.readmark.set;
+            self.writesets[i] = r.writemark.set;
             if k < PAIRS {
                 let marks = labels::at(&self.opens, k);
                 self.opens[k] = opens::marks_after(change, marks);
@@ -381,6 +408,9 @@ impl Facility {
             &self.writemarks,
             &self.automatics,
             &self.moves,
+            &self.currentsets,
+            &self.readsets,
+            &self.writesets,
             i,
         )
     }
@@ -398,6 +428,7 @@ impl Facility {
             &self.datatypes,
             &self.flags,
             &self.parents,
+            &self.sets,
             i,
         )
     }
@@ -407,7 +438,13 @@ impl Facility {
         ensures { λ x. ⌜ x ≡ userOf self u ⌝ }
     {
         let i = u as usize;
-        user_at(&self.clearances, &self.roles, &self.trusts, i)
+        user_at(
+            &self.clearances,
+            &self.roles,
+            &self.trusts,
+            &self.clearancesets,
+            i,
+        )
     }
 
     // The marks of process p go.
@@ -467,6 +504,7 @@ impl Facility {
             self.datatypes[i] = o.datatype;
             self.flags[i] = o.flags;
             self.parents[i] = o.parent;
+            self.sets[i] = o.label.set;
             self.entered = n + 1;
         }
         self
@@ -482,6 +520,7 @@ impl Facility {
             self.clearances[i] = u.clearance.level;
             self.roles[i] = u.role;
             self.trusts[i] = u.trusted;
+            self.clearancesets[i] = u.clearance.set;
             self.users = n + 1;
         }
         self

@@ -2,7 +2,8 @@
 // its line. Of an accepted one: what it gives written out into a buffer of its length and into one a byte shorter, and a line `touched` where
 // a byte that is to stay does not; the lines of the run program; of how many calls query says what enforce does, in number, answers and object
 // number, and of what replay returns the sixteen counters of refusals, the objects entered, the length and a sum of the bytes of the set-up written
-// out, and a sum of the effective flags; then how many pairs of objects the account has of which the first holds the matter of the second.
+// out, and sums of the effective flags, of the moves and of the categories of the processes' labels; then how many pairs of objects the account
+// has of which the first holds the matter of the second.
 ghost use Prim.Native.Nat.{_≤_};
 use answers::Answers;
 use answers::Outcome;
@@ -218,7 +219,10 @@ fn show_state(f: Facility, agreed: u64) {
     let mut out = io::buffer();
     show_written(f, &mut out);
     show(weighed_flags(&f.lives, &f.flags, &f.parents), b' ');
-    show(weighed(&f.moves, state::PROCESSES), b'\n');
+    show(weighed(&f.moves, state::PROCESSES), b' ');
+    show(weighed(&f.currentsets, state::PROCESSES), b' ');
+    show(weighed(&f.readsets, state::PROCESSES), b' ');
+    show(weighed(&f.writesets, state::PROCESSES), b'\n');
 }
 
 // How many of the object numbers below n object x holds the matter of.

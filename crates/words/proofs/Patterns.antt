@@ -3,7 +3,7 @@ use Prim.Native.Nat.{ℕ, suc, _+_, _≤_, _<_, min}
 use mathlib.Core.Path.{_≡_, refl, sym, _∙_, ap}
 use mathlib.Core.Logic.{_≢_}
 use mathlib.Core.List.{List, [], _∷_, _++_}
-use lib.Dec.{ltb}
+use lib.Dec.{ltb, eqb}
 use lib.ListN.{length, drop, getD}
 use lib.Seq.{drop-cons, drop-length, length-sets}
 use native.Mathlib.Omega.{arith}
@@ -15,13 +15,17 @@ use Rattle.text.specs.Laws.Stored.{then, as-text}
 use Rattle.words.specs.Patterns.{said, signs, filledFrom}
 
 -- a byte that is none of the signs
-pub said-itself : (x n : ℕ) → x ≢ 35 → x ≢ 36 → x ≢ 37 → x ≢ 38 → x ≢ 39 → x ≢ 34 → x ≢ 33 → x ∷ [] ≡ said x n
+pub said-itself : (x n : ℕ) → x ≢ 35 → x ≢ 36 → x ≢ 37 → x ≢ 38 → x ≢ 39 → x ≢ 34 → x ≢ 33 → x ≢ 42 → x ∷ [] ≡ said x n
 unfolding said
-said-itself x n a b c d e f g = rw (ne-eqb x 35 a, ne-eqb x 36 b, ne-eqb x 37 c, ne-eqb x 38 d, ne-eqb x 39 e, ne-eqb x 34 f, ne-eqb x 33 g)
+said-itself x n a b c d e f g h =
+    rw (ne-eqb x 35 a, ne-eqb x 36 b, ne-eqb x 37 c, ne-eqb x 38 d, ne-eqb x 39 e, ne-eqb x 34 f, ne-eqb x 33 g, ne-eqb x 42 h)
 
 pub at-most-one : (x : ℕ) → signs x ≤ 1
 at-most-one x =
-    by-test (ltb 32 x) (λ t. by-test (ltb x 40) (λ u. rw (t, u) (omega arith)) (λ u. rw (t, u) (omega arith))) (λ t. rw t (omega arith))
+    by-test (eqb x 42)
+    (λ s. rw s (omega arith))
+    (λ s. by-test (ltb 32 x)
+    (λ t. by-test (ltb x 40) (λ u. rw (s, t, u) (omega arith)) (λ u. rw (s, t, u) (omega arith))) (λ t. rw (s, t) (omega arith)))
 
 -- with the buffer o and the place p as they are, the text xs makes the whole text ys stored at q of the buffer l
 abbrev pub Leaves : List ℕ → ℕ → List ℕ → List ℕ → ℕ → List ℕ → Type 0

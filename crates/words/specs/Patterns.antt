@@ -8,14 +8,14 @@ use lib.Dec.{eqb, ltb}
 use Rattle.rules.specs.Lines.{decimal, decimalIn}
 use Rattle.rules.specs.Text.{ascii}
 use Rattle.labels.specs.Decisions.{at}
-use Rattle.words.specs.Words.{kindWord, answerWord, requestWord, flagWord, numberWord, levelWord}
+use Rattle.words.specs.Words.{kindWord, answerWord, requestWord, flagWord, numberWord, levelWord, setWord}
 
 infix 40 _is_
 abbrev _is_ : ℕ → String → Bool
 x is sign = eqb x (at (ascii sign) 0)
 
--- a number at a sign: # in decimal, $ as a level, % as a kind, & as a request, ' as an answer, " as a flag, ! by what it says; any other byte
--- is itself
+-- a number at a sign: # in decimal, $ as a level, % as a kind, & as a request, ' as an answer, " as a flag, ! by what it says, * as a set of
+-- categories; any other byte is itself
 unfoldable pub said : ℕ → ℕ → List ℕ
 said x n =
     cond (x is "#") (decimal n)
@@ -24,11 +24,12 @@ said x n =
     (cond (x is "&") (requestWord n)
     (cond (x is "'") (answerWord n)
     (cond (x is "\"") (flagWord n)
-    (cond (x is "!") (numberWord n) (x ∷ [])))))))
+    (cond (x is "!") (numberWord n)
+    (cond (x is "*") (setWord n) (x ∷ []))))))))
 
--- how many numbers a byte takes: one where it is a sign, that is one of ! to ' (33 to 39)
+-- how many numbers a byte takes: one where it is a sign, that is one of ! to ' (33 to 39), or * (42)
 abbrev pub signs : ℕ → ℕ
-signs x = cond (ltb 32 x) (cond (ltb x 40) 1 0) 0
+signs x = cond (eqb x 42) 1 (cond (ltb 32 x) (cond (ltb x 40) 1 0) 0)
 
 -- a pattern whose signs stand for the numbers from the i-th on
 unfoldable pub filledFrom : ℕ → List ℕ → List ℕ → List ℕ

@@ -33,8 +33,9 @@ use Rattle.words.specs.Patterns.{filled, filledFrom, said}
 abbrev pub processText : Process → User → List ℕ
 processText r u =
     cond (on (r .running))
-    (filled (ascii "user #, clearance #, current #, marks # to #, moved # times of at most ")
-    (r .owner ∷ u .clearance .level ∷ r .current .level ∷ r .readmark .level ∷ r .writemark .level ∷ r .moves ∷ [])
+    (filled (ascii "user #, clearance #*, current #*, marks #* to #*, moved # times of at most ")
+    (r .owner ∷ u .clearance .level ∷ u .clearance .set ∷ r .current .level ∷ r .current .set ∷ r .readmark .level ∷ r .readmark .set
+    ∷ r .writemark .level ∷ r .writemark .set ∷ r .moves ∷ [])
     ++ decimal (movesBound (u .clearance)))
     (ascii "not running")
 
@@ -53,7 +54,7 @@ example = refl
 abbrev pub objectText : ℕ → Target → List ℕ
 objectText t x =
     cond (on (x .object .live))
-    (filled (ascii " object # (%, level $") (t ∷ x .object .kind ∷ x .object .label .level ∷ []) ++ flagsText (x .flags) ++ ascii ")")
+    (filled (ascii " object # (%, level $*") (t ∷ x .object .kind ∷ x .object .label .level ∷ x .object .label .set ∷ []) ++ flagsText (x .flags) ++ ascii ")")
     (filled (ascii " object # (not live)") (t ∷ []))
 
 -- what a create makes, and in which directory
@@ -70,7 +71,7 @@ abbrev pub targetText : Action → Call → Target → List ℕ
 targetText Login c x = filled (ascii " user #") (c .extra ∷ [])
 targetText Clone c x = filled (ascii " process #") (c .target ∷ [])
 targetText SendSignal c x = receiverText (c .target) x
-targetText SetLevel c x = filled (ascii " level #") (c .extra ∷ [])
+targetText SetLevel c x = filled (ascii " level #*") (c .extra ∷ c .target ∷ [])
 targetText Terminate c x = []
 targetText Create c x = createText c x
 targetText OnObject c x = objectText (c .target) x

@@ -1,9 +1,11 @@
--- The words for kinds, answers, requests, flags and levels, and what a number says.
+-- The words for kinds, answers, requests, flags, levels and sets of categories, and what a number says.
 use Prim.Native.Nat.{ℕ, zero, suc}
 use mathlib.Core.Bool.{cond}
-use mathlib.Core.List.{List, [], _∷_}
+use mathlib.Core.List.{List, [], _∷_, _++_}
+use mathlib.Core.Path.{_≡_, refl}
 use lib.Dec.{eqb}
-use Rattle.rules.specs.FileFlags.{readOnly, noExecute, noDelete, searchOnly, addInherited}
+use Rattle.rules.specs.FileFlags.{has, readOnly, noExecute, noDelete, searchOnly, addInherited}
+use Rattle.labels.specs.Labels.{allCategories}
 use Rattle.rules.specs.Lines.{decimal}
 use Rattle.rules.specs.Text.{ascii}
 
@@ -70,3 +72,18 @@ numberWord n = wordIn noNumber numberWords n
 -- an object's level
 unfoldable pub levelWord : ℕ → List ℕ
 levelWord n = cond (eqb n 255) (ascii "unset") (decimal n)
+
+-- a set of categories: a letter for each, from the low bit on, with a blank before them; nothing for none, and a word for all eight
+unfoldable pub letterWord : ℕ → List ℕ → ℕ → List ℕ
+letterWord m letter s = cond (has m s) letter []
+
+unfoldable pub setWord : ℕ → List ℕ
+setWord s =
+    cond (eqb s 0) []
+    (cond (eqb s allCategories) (ascii " all")
+    (ascii " " ++ letterWord 1 (ascii "a") s ++ letterWord 2 (ascii "b") s ++ letterWord 4 (ascii "c") s ++ letterWord 8 (ascii "d") s
+    ++ letterWord 16 (ascii "e") s ++ letterWord 32 (ascii "f") s ++ letterWord 64 (ascii "g") s ++ letterWord 128 (ascii "h") s))
+
+example : setWord 0 ++ setWord 1 ++ setWord 130 ++ setWord 127 ++ setWord 254 ++ setWord 255 ≡ ascii " a bh abcdefg bcdefgh all"
+unfolding has letterWord setWord
+example = refl

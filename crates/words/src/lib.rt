@@ -12,7 +12,7 @@ ghost use Rattle.words.specs.Patterns.{filled, said, signs};
 ghost use Rattle.words.specs.Sentences.{beforeText, countText, createText, flagText, flagsText, laterText, objectText, outcomeText};
 ghost use Rattle.words.specs.Sentences.{processText, reasonIn, reasonText, receiverText, sentence, sentenceText, setupSentence, targetText};
 ghost use Rattle.words.specs.Tables.{sizeIn, wordAt};
-ghost use Rattle.words.specs.Words.{answerWord, flagWord, kindWord, levelWord, numberWord, requestWord};
+ghost use Rattle.words.specs.Words.{answerWord, flagWord, kindWord, letterWord, levelWord, numberWord, requestWord, setWord};
 use answers::Answer;
 use answers::Outcome;
 use rules::Action;
@@ -184,6 +184,37 @@ fn put_level(out: &mut [u8; BUFFER], place: usize, level: u8) -> usize
     text::put_small(out, place, level)
 }
 
+// A category's letter, where the category is in the set.
+fn put_letter(out: &mut [u8; BUFFER], place: usize, category: u8, letter: &[u8], s: u8) -> usize
+    ensures { λ r. ⌜ Stored (now (out .entry)) place (letterWord category (now (letter .entry)) s) (now (out .exit)) r ⌝ }
+{
+    if flags::has(category, s) {
+        return text::put_text(out, place, letter);
+    }
+    text::put_text(out, place, b"")
+}
+
+// The letters of a set of categories, with a blank before them, or that all are in it.
+fn put_set(out: &mut [u8; BUFFER], place: usize, s: u8) -> usize
+    ensures { λ r. ⌜ Stored (now (out .entry)) place (setWord s) (now (out .exit)) r ⌝ }
+{
+    if s == 0 {
+        return text::put_text(out, place, b"");
+    }
+    if s == labels::ALL_CATEGORIES {
+        return text::put_text(out, place, b" all");
+    }
+    let mut p = text::put_text(out, place, b" ");
+    p = put_letter(out, p, 1, b"a", s);
+    p = put_letter(out, p, 2, b"b", s);
+    p = put_letter(out, p, 4, b"c", s);
+    p = put_letter(out, p, 8, b"d", s);
+    p = put_letter(out, p, 16, b"e", s);
+    p = put_letter(out, p, 32, b"f", s);
+    p = put_letter(out, p, 64, b"g", s);
+    put_letter(out, p, 128, b"h", s)
+}
+
 // A byte of a pattern: a sign is the number n, said in the sign's way.
 fn put_said(out: &mut [u8; BUFFER], place: usize, x: u8, n: u8) -> usize
     ensures { λ r. ⌜ Stored (now (out .entry)) place (said x n) (now (out .exit)) r ⌝ }
@@ -196,6 +227,7 @@ fn put_said(out: &mut [u8; BUFFER], place: usize, x: u8, n: u8) -> usize
         b'\'' => put_answer(out, place, n),
         b'"' => put_flag_word(out, place, n),
         b'!' => put_number(out, place, n),
+        b'*' => put_set(out, place, n),
         _ => text::put_text(out, place, &[x]),
     }
 }
@@ -204,6 +236,9 @@ fn put_said(out: &mut [u8; BUFFER], place: usize, x: u8, n: u8) -> usize
 fn signs(x: u8) -> usize
     ensures { λ r. ⌜ r ≡ signs x ⌝ }
 {
+    if x == b'*' {
+        return 1;
+    }
     if x > 32 {
         if x < 40 {
             return 1;
@@ -244,18 +279,22 @@ fn put_process(out: &mut [u8; BUFFER], place: usize, r: Process, u: User) -> usi
         let numbers = [
             r.owner,
             u.clearance.level,
+            u.clearance.set,
             r.current.level,
+            r.current.set,
             r.readmark.level,
+            r.readmark.set,
             r.writemark.level,
+            r.writemark.set,
             r.moves,
         ];
         let p = put_filled(
             out,
             place,
-            b"user #, clearance #, current #, marks # to #, moved # times of at most ",
+            b"user #, clearance #*, current #*, marks #* to #*, moved # times of at most ",
             &numbers,
         );
-        return text::put_decimal(out, p, (u.clearance.rank() as u64) + 1);
+        return text::put_decimal(out, p, u.clearance.most_moves() as u64);
     }
     text::put_text(out, place, b"not running")
 }
@@ -286,8 +325,13 @@ fn put_object(out: &mut [u8; BUFFER], place: usize, c: Call, v: View) -> usize
     ensures { λ x. ⌜ Stored (now (out .entry)) place (objectText (c .target) (v .target)) (now (out .exit)) x ⌝ }
 {
     if v.target.object.live == 1 {
-        let numbers = [c.target, v.target.object.kind, v.target.object.label.level];
-        let mut p = put_filled(out, place, b" object # (%, level $", &numbers);
+        let numbers = [
+            c.target,
+            v.target.object.kind,
+            v.target.object.label.level,
+            v.target.object.label.set,
+        ];
+        let mut p = put_filled(out, place, b" object # (%, level $*", &numbers);
         p = put_flags(out, p, v.target.flags);
         return text::put_text(out, p, b")");
     }
@@ -323,7 +367,7 @@ fn put_target(out: &mut [u8; BUFFER], place: usize, c: Call, v: View) -> usize
         Action::Login => put_one(out, place, b" user #", c.extra),
         Action::Clone => put_one(out, place, b" process #", c.target),
         Action::SendSignal => put_receiver(out, place, c, v),
-        Action::SetLevel => put_one(out, place, b" level #", c.extra),
+        Action::SetLevel => put_filled(out, place, b" level #*", &[c.extra, c.target]),
         Action::Terminate => put_one(out, place, b"", 0),
         Action::Create => put_create(out, place, c, v),
         Action::OnObject => put_object(out, place, c, v),

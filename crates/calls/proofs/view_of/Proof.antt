@@ -13,15 +13,18 @@ use Rattle.flags.specs.Laws.{effective-lists}
 returns : tie.Need-returns
 unfolding opensOf
 returns c =
-    let flags = c .before .before .before .before .before .before .before .before .before in
+    let flags = c .before .before .before .before .before .before .before .before .before .before .before in
     let opens = flags .before .before .before .before .before .before .before .before in
     let object = opens .before .before .before .before in
-    let owner = object .before .before .before .before .before .before .before .before .before .before .before .before .before .before .before .before in
-    let receiver = owner .before .before .before .before .before .before .before .before .before in
-    let caller =
-    receiver .before .before .before .before .before .before .before .before .before .before .before .before .before .before .before .before in
-    let marks =
+    let owner =
+    object .before .before .before .before .before .before .before .before .before .before .before .before .before .before .before .before .before .before in
+    let receiver = owner .before .before .before .before .before .before .before .before .before .before .before in
+    let d =
+    receiver .before .before .before .before .before .before .before .before .before .before .before .before .before .before .before .before .before .before in
+    let caller = d .before .before .before .before in
+    let e =
     caller .before .before .before .before .before .before .before .before .before .before .before .before .before .before .before .before .before .before in
+    let marks = e .before .before .before .before .before .before in
     let f = marks .before .args .t1 in
     λ i. record {
       switches = switchesOf f;

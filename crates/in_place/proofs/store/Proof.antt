@@ -14,10 +14,10 @@ same-length c =
     let c5 = c6 .before .before .before .before .before .before .before in
     let c4 = c5 .before .before .before .before .before .before .before in
     let d4 = c4 .before .before .before .before .before .before .before .before .before .before .before .before .before .before .before in
-    let c3 = d4 .before .before .before .before in
+    let c3 = d4 .before .before .before .before .before .before .before .before .before .before in
     let d3 = c3 .before .before .before .before .before .before .before .before .before .before .before .before .before .before .before in
-    let c2 = d3 .before .before .before .before in
-    let c1 = c2 .before .before .before .before .before .before .before .before .before .before .before in
+    let c2 = d3 .before .before .before .before .before .before in
+    let c1 = c2 .before .before .before .before .before .before .before .before .before .before .before .before .before in
     let x = c1 .before .before .before in
     c6 .put-counters .kept .0 ∙ c5 .put-array .kept .0 ∙ c4 .put-processes .ensures .long ∙ sym (x .pre)
 
@@ -27,10 +27,10 @@ returns c =
     let c5 = c6 .before .before .before .before .before .before .before in
     let c4 = c5 .before .before .before .before .before .before .before in
     let d4 = c4 .before .before .before .before .before .before .before .before .before .before .before .before .before .before .before in
-    let c3 = d4 .before .before .before .before in
+    let c3 = d4 .before .before .before .before .before .before .before .before .before .before in
     let d3 = c3 .before .before .before .before .before .before .before .before .before .before .before .before .before .before .before in
-    let c2 = d3 .before .before .before .before in
-    let c1 = c2 .before .before .before .before .before .before .before .before .before .before .before in
+    let c2 = d3 .before .before .before .before .before .before in
+    let c1 = c2 .before .before .before .before .before .before .before .before .before .before .before .before .before in
     let x = c1 .before .before .before in
     let f = x .args .t1 in
     let g = x .good .0 .1 .1 .1 .1 .1 .1 .1 .1 .1 .1 .1 .1 .1 .1 .1 .1 .1 .1 .1 .1 .1 in

@@ -1,7 +1,8 @@
 -- Numbers as sets of bits: union and intersection, each law by halves.
-use Prim.Native.Nat.{ℕ, zero, suc, _+_, _/_, _%_, _≤_, min, max}
+use Prim.Native.Nat.{ℕ, zero, suc, _+_, _*_, _/_, _%_, _≤_, min, max}
 use mathlib.Core.Path.{_≡_, sym, _∙_, ap}
 use lib.Bits.{bitOr, bitAnd, or-step, and-step, or-zero-l, or-add-and, and-zero-l, and-self, and-le-r}
+use lib.Count.{ones, ones-step}
 use native.Mathlib.Omega.{arith}
 
 -- the half and the low bit of each
@@ -67,3 +68,79 @@ and-again a m = sym (and-assoc a m m) ∙ ap (bitAnd a) (and-self m)
 -- a union is empty only where its parts are
 pub or-none-l : (a b : ℕ) → bitOr a b ≡ 0 → a ≡ 0
 or-none-l a b h = let e = or-add-and a b in let l = and-le-r a b in omega arith
+
+-- a part of a set adds nothing to it
+and-absorbed-to : (n a b : ℕ) → a ≤ n → b ≤ n → bitOr (bitAnd a b) a ≡ a
+and-absorbed-to zero a b h k = let e : a ≡ 0 = omega arith in rw (e, and-zero-l b)
+and-absorbed-to (suc n) a b h k =
+    halves _ _
+    (or-half (bitAnd a b) a ∙ ap (λ (x : ℕ). bitOr x (a / 2)) (and-half a b) ∙ and-absorbed-to n (a / 2) (b / 2) (omega arith) (omega arith))
+    (let p = or-odd (bitAnd a b) a in let q = and-odd a b in omega arith)
+
+pub and-absorbed : (a b : ℕ) → bitOr (bitAnd a b) a ≡ a
+and-absorbed a b = and-absorbed-to (a + b) a b (omega arith) (omega arith)
+
+or-and-to : (n a b c : ℕ) → a ≤ n → b ≤ n → c ≤ n → bitOr c (bitAnd a b) ≡ bitAnd (bitOr c a) (bitOr c b)
+or-and-to zero a b c h k l =
+    let ea : a ≡ 0 = omega arith in
+    let eb : b ≡ 0 = omega arith in
+    let ec : c ≡ 0 = omega arith in
+    rw (ea, eb, ec)
+or-and-to (suc n) a b c h k l =
+    halves _ _
+    (or-half c (bitAnd a b) ∙ ap (bitOr (c / 2)) (and-half a b)
+    ∙ or-and-to n (a / 2) (b / 2) (c / 2) (omega arith) (omega arith) (omega arith)
+    ∙ sym (and-half (bitOr c a) (bitOr c b) ∙ (λ i. bitAnd (or-half c a i) (or-half c b i))))
+    (let p = or-odd c (bitAnd a b) in let q = and-odd a b in let r = and-odd (bitOr c a) (bitOr c b) in let s = or-odd c a in
+    let t = or-odd c b in omega arith)
+
+pub or-and : (a b c : ℕ) → bitOr c (bitAnd a b) ≡ bitAnd (bitOr c a) (bitOr c b)
+or-and a b c = or-and-to (a + b + c) a b c (omega arith) (omega arith) (omega arith)
+
+-- a set of n bits is within all of them
+one-bit-more : (a m : ℕ) → bitOr (a / 2) m ≡ m → bitOr a (m * 2 + 1) ≡ m * 2 + 1
+one-bit-more a m h =
+    halves _ _
+    (or-half a (m * 2 + 1) ∙ let e : (m * 2 + 1) / 2 ≡ m = omega arith in ap (bitOr (a / 2)) e ∙ h ∙ sym e)
+    (let p = or-odd a (m * 2 + 1) in omega arith)
+
+-- the number of which the first n bits are ones, and a number of at most n bits
+abbrev allOnes : ℕ → ℕ
+allOnes zero = 0
+allOnes (suc n) = allOnes n * 2 + 1
+
+within-ones : (n a : ℕ) → a ≤ allOnes n → bitOr a (allOnes n) ≡ allOnes n
+within-ones zero a h = let e : a ≡ 0 = omega arith in rw e
+within-ones (suc n) a h = one-bit-more a (allOnes n) (within-ones n (a / 2) (omega arith))
+
+pub within-byte : (a : ℕ) → a ≤ 255 → bitOr a 255 ≡ 255
+within-byte a h = within-ones 8 a h
+
+-- a set within another is no larger a number, and has no more elements; with as many it is the same set
+pub within-most : (a b : ℕ) → bitOr a b ≡ b → a ≤ b
+within-most a b e = let s = or-add-and a b in let l = and-le-r a b in omega arith
+
+more-ones : (n a b : ℕ) → a ≤ n → b ≤ n → bitOr a b ≡ b → ones a ≤ ones b
+more-ones zero a b h k e = let ea : a ≡ 0 = omega arith in let eb : b ≡ 0 = omega arith in rw (ea, eb) (omega arith)
+more-ones (suc n) a b h k e =
+    let i = more-ones n (a / 2) (b / 2) (omega arith) (omega arith) (sym (or-half a b) ∙ ap (λ (x : ℕ). x / 2) e) in
+    let o = sym (or-odd a b) ∙ ap (λ (x : ℕ). x % 2) e in
+    let p = ones-step a in
+    let q = ones-step b in
+    omega arith
+
+pub within-ones-most : (a b : ℕ) → bitOr a b ≡ b → ones a ≤ ones b
+within-ones-most a b e = more-ones (a + b) a b (omega arith) (omega arith) e
+
+same-ones : (n a b : ℕ) → a ≤ n → b ≤ n → bitOr a b ≡ b → ones b ≤ ones a → a ≡ b
+same-ones zero a b h k e l = omega arith
+same-ones (suc n) a b h k e l =
+    let w = sym (or-half a b) ∙ ap (λ (x : ℕ). x / 2) e in
+    let i = more-ones n (a / 2) (b / 2) (omega arith) (omega arith) w in
+    let o = sym (or-odd a b) ∙ ap (λ (x : ℕ). x % 2) e in
+    let p = ones-step a in
+    let q = ones-step b in
+    halves a b (same-ones n (a / 2) (b / 2) (omega arith) (omega arith) w (omega arith)) (omega arith)
+
+pub within-same : (a b : ℕ) → bitOr a b ≡ b → ones b ≤ ones a → a ≡ b
+within-same a b e l = same-ones (a + b) a b (omega arith) (omega arith) e l

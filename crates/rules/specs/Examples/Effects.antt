@@ -3,11 +3,10 @@ use Prim.Native.Nat.{ℕ}
 use mathlib.Core.Path.{_≡_, refl}
 use mathlib.Core.List.{List, [], _∷_, _++_, map}
 use lib.ListN.{replicate}
-use Rattle.labels.specs.Labels.{label}
 use Rattle.state.specs.State.{putProcess, putUser, putObject, opened, blank}
 use Rattle.opens.specs.Opens.{closeObject, closeProcess, copyProcess}
 use Rattle.rules.specs.Types.{Call, Object, Facility}
-use Rattle.rules.specs.Computed.{everything, call, switches, user, object, processBytes, objectBytes, openBytes, counts}
+use Rattle.rules.specs.Computed.{everything, call, switches, user, object, processBytes, objectBytes, openBytes, counts, level}
 use Rattle.rules.specs.Setup.{fresh}
 use Rattle.rules.specs.Calls.{after}
 use Rattle.rules.specs.Histories.{run}
@@ -61,19 +60,19 @@ opens-and-close = refl
 
 -- MAC on, user 0 of clearance 9, files 0 and 1 of level 3; process 0, automatic off, has 0 open both ways and 1 for reading.
 abbrev file : Object
-file = record { live = 1; kind = 0; label = label 3; category = 0; datatype = 0; flags = 0; parent = 0 }
+file = record { live = 1; kind = 0; label = level 3; category = 0; datatype = 0; flags = 0; parent = 0 }
 
 abbrev one : Facility
 one =
     opened (opened (putProcess (putObject (putObject (putUser (blank (record { mac = 1; fc = 0; sim = 0; ff = 0 }))
-    (record { clearance = label 9; role = 0; trusted = 0 })) file) file) 0
-    (record { running = 1; owner = 0; current = label 3; readmark = label 2; writemark = label 7; automatic = 0; moves = 0 })) 0 0 3) 0 1 1
+    (record { clearance = level 9; role = 0; trusted = 0 })) file) file) 0
+    (record { running = 1; owner = 0; current = level 3; readmark = level 2; writemark = level 7; automatic = 0; moves = 0 })) 0 0 3) 0 1 1
 
 -- and process 1 of user 0 has 0 open for reading and 1 for writing
 abbrev two : Facility
 two =
     opened (opened (putProcess one 1
-    (record { running = 1; owner = 0; current = label 3; readmark = label 1; writemark = label 8; automatic = 1; moves = 0 })) 1 0 1) 1 1 2
+    (record { running = 1; owner = 0; current = level 3; readmark = level 1; writemark = level 8; automatic = 1; moves = 0 })) 1 0 1) 1 1 2
 
 -- of a facility: processes 0 and 1, and objects 0 and 1
 abbrev twoOfEach : Facility → List (List ℕ)
@@ -194,12 +193,12 @@ mac-off-effects = refl
 pub set-level-effect :
     of0 (login ∷ call 17 0 0 5 ∷ []) ∷ of0 (login ∷ call 17 0 0 5 ∷ call 17 0 0 3 ∷ []) ∷ of0 (login ∷ call 17 0 0 5 ∷ call 20 0 0 0 ∷ [])
     ∷ of0 (login ∷ call 17 0 0 5 ∷ call 13 0 0 0 ∷ []) ∷ of0 (login ∷ call 17 0 0 3 ∷ call 20 0 0 0 ∷ [])
-    -- the caller's, whatever t is
-    ∷ of0 (login ∷ call 17 0 1 5 ∷ []) ∷ of1 (login ∷ call 17 0 1 5 ∷ [])
+    -- the caller's, and no other's
+    ∷ of1 (login ∷ call 17 0 0 5 ∷ [])
     ∷ []
     ≡ (1 ∷ 0 ∷ 5 ∷ 0 ∷ 15 ∷ 0 ∷ []) ∷ (1 ∷ 0 ∷ 3 ∷ 0 ∷ 15 ∷ 0 ∷ []) ∷ (1 ∷ 0 ∷ 5 ∷ 0 ∷ 15 ∷ 0 ∷ [])
     ∷ (1 ∷ 0 ∷ 5 ∷ 3 ∷ 15 ∷ 0 ∷ []) ∷ (1 ∷ 0 ∷ 3 ∷ 0 ∷ 3 ∷ 0 ∷ [])
-    ∷ (1 ∷ 0 ∷ 5 ∷ 0 ∷ 15 ∷ 0 ∷ []) ∷ replicate 6 0
+    ∷ replicate 6 0
     ∷ []
 unfolding everything
 set-level-effect = refl

@@ -3,11 +3,10 @@ use Prim.Native.Nat.{ℕ}
 use mathlib.Core.Path.{_≡_, refl}
 use mathlib.Core.Bool.{true, false}
 use mathlib.Core.List.{List, [], _∷_, _++_, map}
-use Rattle.labels.specs.Labels.{label}
 use Rattle.answers.specs.Answers.{combine, combineAll, code, isNotGranted, isUndefined, grant, passes}
 use Rattle.answers.specs.Outcomes.{answersOf}
 use Rattle.rules.specs.Types.{Answer, NotCared, Granted, NotGranted, Undefined, Call, Process, User, Object, Facility}
-use Rattle.rules.specs.Computed.{everything, codes, call, switches, user, object}
+use Rattle.rules.specs.Computed.{everything, codes, call, switches, user, object, level}
 use Rattle.rules.specs.Requests.{Class, Absent, Reads, Writes, Both, NoCondition}
 use Rattle.rules.specs.Setup.{fresh}
 use Rattle.rules.specs.Calls.{query}
@@ -61,9 +60,9 @@ processAfter moves current readmark writemark automatic =
     record {
       running = 1;
       owner = 3;
-      current = label current;
-      readmark = label readmark;
-      writemark = label writemark;
+      current = level current;
+      readmark = level readmark;
+      writemark = level writemark;
       automatic = automatic;
       moves = moves;
     }
@@ -75,21 +74,21 @@ abbrev movedOnce : ℕ → ℕ → ℕ → ℕ → Process
 movedOnce current readmark writemark automatic = processAfter 1 current readmark writemark automatic
 
 abbrev levelled : ℕ → Object
-levelled l = record { live = 1; kind = 0; label = label l; category = 0; datatype = 0; flags = 0; parent = 0 }
+levelled l = record { live = 1; kind = 0; label = level l; category = 0; datatype = 0; flags = 0; parent = 0 }
 
 abbrev owner : ℕ → ℕ → User
-owner clearance trusted = record { clearance = label clearance; role = 0; trusted = trusted }
+owner clearance trusted = record { clearance = level clearance; role = 0; trusted = trusted }
 
 -- "R: granted if L ≤ current, or automatic and L ≤ write mark and L ≤ clr"
 pub reads :
     -- L ≤ current: nothing else is asked
-    (mayRead (label 2) (process 2 9 0 0) (label 0) ∷ mayRead (label 1) (process 2 9 0 0) (label 0) ∷ mayRead (label 3) (process 2 0 15 0) (label 15) ∷ [])
+    (mayRead (level 2) (process 2 9 0 0) (level 0) ∷ mayRead (level 1) (process 2 9 0 0) (level 0) ∷ mayRead (level 3) (process 2 0 15 0) (level 15) ∷ [])
     -- automatic; the read mark is not asked
-    ∷ (mayRead (label 3) (process 2 0 15 1) (label 15) ∷ mayRead (label 3) (process 2 15 15 1) (label 15) ∷ [])
+    ∷ (mayRead (level 3) (process 2 0 15 1) (level 15) ∷ mayRead (level 3) (process 2 15 15 1) (level 15) ∷ [])
     -- L ≤ write mark
-    ∷ (mayRead (label 3) (process 2 0 3 1) (label 15) ∷ mayRead (label 3) (process 2 0 2 1) (label 15) ∷ [])
+    ∷ (mayRead (level 3) (process 2 0 3 1) (level 15) ∷ mayRead (level 3) (process 2 0 2 1) (level 15) ∷ [])
     -- L ≤ clr
-    ∷ (mayRead (label 3) (process 2 0 15 1) (label 3) ∷ mayRead (label 3) (process 2 0 15 1) (label 2) ∷ [])
+    ∷ (mayRead (level 3) (process 2 0 15 1) (level 3) ∷ mayRead (level 3) (process 2 0 15 1) (level 2) ∷ [])
     ∷ []
     ≡ (true ∷ true ∷ false ∷ []) ∷ (true ∷ true ∷ []) ∷ (true ∷ false ∷ []) ∷ (true ∷ false ∷ []) ∷ []
 unfolding everything
@@ -98,15 +97,15 @@ reads = refl
 -- "W: granted if L = current, or automatic and read mark ≤ L ≤ write mark and L ≤ clr"
 pub writes :
     -- L = current: nothing else is asked
-    (mayWrite (label 2) (process 2 9 0 0) (label 0) ∷ mayWrite (label 1) (process 2 0 15 0) (label 15) ∷ mayWrite (label 3) (process 2 0 15 0) (label 15) ∷ [])
+    (mayWrite (level 2) (process 2 9 0 0) (level 0) ∷ mayWrite (level 1) (process 2 0 15 0) (level 15) ∷ mayWrite (level 3) (process 2 0 15 0) (level 15) ∷ [])
     -- automatic, up and down
-    ∷ (mayWrite (label 3) (process 2 0 15 1) (label 15) ∷ mayWrite (label 1) (process 2 0 15 1) (label 15) ∷ [])
+    ∷ (mayWrite (level 3) (process 2 0 15 1) (level 15) ∷ mayWrite (level 1) (process 2 0 15 1) (level 15) ∷ [])
     -- read mark ≤ L
-    ∷ (mayWrite (label 3) (process 2 3 15 1) (label 15) ∷ mayWrite (label 3) (process 2 4 15 1) (label 15) ∷ [])
+    ∷ (mayWrite (level 3) (process 2 3 15 1) (level 15) ∷ mayWrite (level 3) (process 2 4 15 1) (level 15) ∷ [])
     -- L ≤ write mark
-    ∷ (mayWrite (label 3) (process 2 0 3 1) (label 15) ∷ mayWrite (label 3) (process 2 0 2 1) (label 15) ∷ [])
+    ∷ (mayWrite (level 3) (process 2 0 3 1) (level 15) ∷ mayWrite (level 3) (process 2 0 2 1) (level 15) ∷ [])
     -- L ≤ clr
-    ∷ (mayWrite (label 3) (process 2 0 15 1) (label 3) ∷ mayWrite (label 3) (process 2 0 15 1) (label 2) ∷ [])
+    ∷ (mayWrite (level 3) (process 2 0 15 1) (level 3) ∷ mayWrite (level 3) (process 2 0 15 1) (level 2) ∷ [])
     ∷ []
     ≡ (true ∷ false ∷ false ∷ []) ∷ (true ∷ true ∷ []) ∷ (true ∷ false ∷ []) ∷ (true ∷ false ∷ []) ∷ (true ∷ false ∷ []) ∷ []
 unfolding everything
@@ -114,8 +113,8 @@ writes = refl
 
 -- "Set-level: granted if read mark ≤ e ≤ write mark and e ≤ clr", automatic or not
 pub set-levels :
-    maySet (label 3) (process 9 3 3 0) (label 3) ∷ maySet (label 3) (process 9 3 3 1) (label 3)
-    ∷ maySet (label 3) (process 3 4 15 1) (label 15) ∷ maySet (label 3) (process 3 0 2 1) (label 15) ∷ maySet (label 3) (process 3 0 15 1) (label 2)
+    maySet (level 3) (process 9 3 3 0) (level 3) ∷ maySet (level 3) (process 9 3 3 1) (level 3)
+    ∷ maySet (level 3) (process 3 4 15 1) (level 15) ∷ maySet (level 3) (process 3 0 2 1) (level 15) ∷ maySet (level 3) (process 3 0 15 1) (level 2)
     ∷ []
     ≡ true ∷ true ∷ false ∷ false ∷ false ∷ []
 unfolding everything
@@ -168,15 +167,15 @@ signals = refl
 
 -- "R .. Effect: current and read mark become at least L"; automatic and owner stay; one move more exactly where current changes
 pub moves :
-    moveBy Reads (label 3) (process 2 1 9 1) ∷ moveBy Reads (label 1) (process 3 0 9 1) ∷ moveBy Reads (label 1) (process 3 2 9 0)
+    moveBy Reads (level 3) (process 2 1 9 1) ∷ moveBy Reads (level 1) (process 3 0 9 1) ∷ moveBy Reads (level 1) (process 3 2 9 0)
     -- "W .. Effect: current becomes L, write mark at most L"
-    ∷ moveBy Writes (label 3) (process 2 1 9 1) ∷ moveBy Writes (label 3) (process 5 1 2 0) ∷ moveBy Writes (label 3) (process 3 1 9 1)
+    ∷ moveBy Writes (level 3) (process 2 1 9 1) ∷ moveBy Writes (level 3) (process 5 1 2 0) ∷ moveBy Writes (level 3) (process 3 1 9 1)
     -- "B: as W; both marks become L"
-    ∷ moveBy Both (label 3) (process 2 1 9 1) ∷ moveBy Both (label 3) (process 5 4 2 0) ∷ moveBy Both (label 3) (process 3 1 9 1)
+    ∷ moveBy Both (level 3) (process 2 1 9 1) ∷ moveBy Both (level 3) (process 5 4 2 0) ∷ moveBy Both (level 3) (process 3 1 9 1)
     -- N: nothing
-    ∷ moveBy NoCondition (label 3) (process 2 1 9 1) ∷ moveBy Absent (label 3) (process 2 1 9 1)
+    ∷ moveBy NoCondition (level 3) (process 2 1 9 1) ∷ moveBy Absent (level 3) (process 2 1 9 1)
     -- "current becomes e, automatic goes off for good"; the marks stay, and it is no move
-    ∷ setLevel (label 3) (process 2 1 9 1) ∷ setLevel (label 3) (process 4 1 9 0)
+    ∷ setLevel (level 3) (process 2 1 9 1) ∷ setLevel (level 3) (process 4 1 9 0)
     ∷ []
     ≡ movedOnce 3 3 9 1 ∷ process 3 1 9 1 ∷ process 3 2 9 0
     ∷ movedOnce 3 1 3 1 ∷ movedOnce 3 1 2 0 ∷ process 3 1 3 1
@@ -189,7 +188,7 @@ moves = refl
 
 -- the counter of moves stays at 255
 pub moves-stop :
-    map (λ n. moveBy Both (label 3) (processAfter n 2 1 9 1)) (253 ∷ 254 ∷ 255 ∷ [])
+    map (λ n. moveBy Both (level 3) (processAfter n 2 1 9 1)) (253 ∷ 254 ∷ 255 ∷ [])
     ≡ processAfter 254 3 3 3 1 ∷ processAfter 255 3 3 3 1 ∷ processAfter 255 3 3 3 1 ∷ []
 unfolding everything
 moves-stop = refl
@@ -198,8 +197,8 @@ moves-stop = refl
 abbrev byCategory : ℕ → List Answer
 byCategory role =
     map
-    (λ g. fcRule (record { live = 1; kind = 0; label = label 0; category = g; datatype = 1; flags = 0; parent = 0 })
-    (record { clearance = label 0; role = role; trusted = 0 }))
+    (λ g. fcRule (record { live = 1; kind = 0; label = level 0; category = g; datatype = 1; flags = 0; parent = 0 })
+    (record { clearance = level 0; role = role; trusted = 0 }))
     (0 ∷ 1 ∷ 2 ∷ 255 ∷ [])
 
 -- "unset category undefined; granted if the category is general or matches the role by number; else not granted"
@@ -216,8 +215,8 @@ fc-rule = refl
 abbrev byRole : ℕ → Class → ℕ → List Answer
 byRole request k datatype =
     map
-    (λ role. simRule request k (record { live = 1; kind = 0; label = label 0; category = 1; datatype = datatype; flags = 0; parent = 0 })
-    (record { clearance = label 0; role = role; trusted = 1 }))
+    (λ role. simRule request k (record { live = 1; kind = 0; label = level 0; category = 1; datatype = datatype; flags = 0; parent = 0 })
+    (record { clearance = level 0; role = role; trusted = 1 }))
     (0 ∷ 1 ∷ 2 ∷ [])
 
 -- "for class W or B, or write, on security information: granted to the security officer, else not granted"

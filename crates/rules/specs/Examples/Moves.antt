@@ -5,7 +5,7 @@ use mathlib.Core.List.{List, [], _∷_, _++_, map}
 use Rattle.labels.specs.Labels.{label}
 use Rattle.state.specs.State.{processOf}
 use Rattle.rules.specs.Types.{Call}
-use Rattle.rules.specs.Computed.{everything, call, switches, user, object}
+use Rattle.rules.specs.Computed.{everything, call, switches, user, object, level}
 use Rattle.rules.specs.Setup.{fresh}
 use Rattle.rules.specs.Histories.{run, past, movesOf, movesBound}
 
@@ -97,7 +97,9 @@ pub by-history :
 unfolding everything
 by-history = refl
 
--- "at most the owner's clearance plus 1"
-pub bound : map (λ n. movesBound (label n)) (0 ∷ 1 ∷ 8 ∷ 15 ∷ []) ≡ 1 ∷ 2 ∷ 9 ∷ 16 ∷ []
+-- "clearance level plus its number of categories plus 1"
+pub bound :
+    map (λ n. movesBound (level n)) (0 ∷ 1 ∷ 8 ∷ 15 ∷ []) ++ map (λ s. movesBound (label 2 s)) (1 ∷ 3 ∷ 128 ∷ 255 ∷ [])
+    ≡ 1 ∷ 2 ∷ 9 ∷ 16 ∷ 4 ∷ 5 ∷ 4 ∷ 11 ∷ []
 unfolding everything
 bound = refl

@@ -60,7 +60,7 @@ order = refl
 
 -- what only some requests are asked
 pub asked-of-some :
-    -- login, set-level and terminate look at no target, so t may be any byte; a signal has a process
+    -- login and terminate look at no target, so t may be any byte; of set-level it is the set, which MAC alone judges; a signal has a process
     numbersIn 0 (call 21 0 255 0 ∷ call 17 0 255 0 ∷ call 21 1 255 1 ∷ call 16 0 1 255 ∷ call 18 1 255 255 ∷ call 18 1 0 0 ∷ [])
     -- a clone's number is to be free, and its parent to run; the new process is no object
     ∷ numbersIn 0 (call 21 0 0 0 ∷ call 2 0 30 255 ∷ call 2 0 30 0 ∷ call 2 29 28 0 ∷ call 21 30 0 0 ∷ call 18 30 0 0 ∷ call 2 0 30 0 ∷ [])
@@ -73,7 +73,7 @@ pub asked-of-some :
     -- the extra byte of other requests may be any
     ∷ numbersIn 0 (call 21 0 0 0 ∷ call 13 0 0 255 ∷ call 12 0 0 16 ∷ call 1 0 3 255 ∷ call 0 0 2 255 ∷ [])
     ∷ []
-    ≡ (0 ∷ 0 ∷ 0 ∷ 0 ∷ 0 ∷ 3 ∷ [])
+    ≡ (0 ∷ 12 ∷ 0 ∷ 0 ∷ 0 ∷ 3 ∷ [])
     ∷ (0 ∷ 0 ∷ 4 ∷ 3 ∷ 4 ∷ 0 ∷ 0 ∷ [])
     ∷ (0 ∷ 0 ∷ 0 ∷ 6 ∷ 6 ∷ 7 ∷ 0 ∷ [])
     ∷ (0 ∷ 0 ∷ 0 ∷ 9 ∷ 9 ∷ 0 ∷ 0 ∷ 0 ∷ [])

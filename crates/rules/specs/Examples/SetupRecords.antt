@@ -43,18 +43,18 @@ pub switches-bytes :
 unfolding everything
 switches-bytes = refl
 
--- "byte 1 clearance 0..15, byte 2 role 0, 1, 2, byte 3 trusted 0 or 1"
+-- "byte 1 clearance 0..15, byte 2 role 0, 1, 2, byte 3 trusted 0 or 1"; "byte 4 is the clearance's set"
 pub user-bytes :
     map second
     (bytes 1 0 0 0 0 0 0 0 ∷ bytes 1 15 2 1 0 0 0 0 ∷ bytes 1 16 0 0 0 0 0 0 ∷ bytes 1 0 3 0 0 0 0 0 ∷ bytes 1 0 0 2 0 0 0 0
     ∷ bytes 1 255 0 0 0 0 0 0 ∷ bytes 1 0 255 0 0 0 0 0 ∷ bytes 1 0 0 255 0 0 0 0
     ∷ bytes 1 0 0 0 1 0 0 0 ∷ bytes 1 0 0 0 0 1 0 0 ∷ bytes 1 0 0 0 0 0 1 0 ∷ bytes 1 0 0 0 0 0 0 1 ∷ [])
-    ≡ 0 ∷ 0 ∷ replicate 10 17
+    ≡ 0 ∷ 0 ∷ replicate 6 17 ++ (0 ∷ replicate 3 17)
 unfolding everything
 user-bytes = refl
 
 -- "byte 1 kind 0..3, byte 2 level 0..15 or 255 unset, byte 3 category 0, 1, 2, 255 unset, byte 4 data type 0, 1"; "byte 5 has flags, other
--- bits must be 0; byte 6 is the parent directory's number plus 1, or 0"
+-- bits must be 0; byte 6 is the parent directory's number plus 1, or 0"; "byte 7 the object's set"
 pub object-bytes :
     map second
     (bytes 2 0 0 0 0 0 0 0 ∷ bytes 2 3 15 2 1 143 0 0 ∷ bytes 2 0 255 0 0 0 0 0 ∷ bytes 2 0 0 255 0 0 0 0
@@ -62,7 +62,7 @@ pub object-bytes :
     ∷ bytes 2 0 0 3 0 0 0 0 ∷ bytes 2 0 0 254 0 0 0 0 ∷ bytes 2 0 0 0 2 0 0 0 ∷ bytes 2 0 0 0 255 0 0 0
     ∷ bytes 2 0 0 0 0 16 0 0 ∷ bytes 2 0 0 0 0 32 0 0 ∷ bytes 2 0 0 0 0 64 0 0 ∷ bytes 2 0 0 0 0 255 0 0 ∷ bytes 2 0 0 0 0 256 0 0
     ∷ bytes 2 0 0 0 0 0 0 1 ∷ bytes 2 0 0 0 0 0 1 0 ∷ bytes 2 1 0 0 0 0 1 0 ∷ bytes 2 0 0 0 0 0 255 0 ∷ [])
-    ≡ 0 ∷ 0 ∷ 0 ∷ 0 ∷ replicate 14 17 ++ replicate 3 19
+    ≡ 0 ∷ 0 ∷ 0 ∷ 0 ∷ replicate 13 17 ++ (0 ∷ replicate 3 19)
 unfolding everything
 object-bytes = refl
 

@@ -3,10 +3,9 @@ use Prim.Native.Nat.{ℕ}
 use mathlib.Core.Path.{_≡_, refl}
 use mathlib.Core.Bool.{true, false}
 use mathlib.Core.List.{List, [], _∷_, _++_, map}
-use Rattle.labels.specs.Labels.{label}
 use Rattle.state.specs.State.{putProcess, putUser, blank}
 use Rattle.rules.specs.Types.{Call, Facility}
-use Rattle.rules.specs.Computed.{everything, numbersFrom, call, switches, user, object, processBytes}
+use Rattle.rules.specs.Computed.{everything, numbersFrom, call, switches, user, object, processBytes, level}
 use Rattle.rules.specs.Setup.{fresh}
 use Rattle.rules.specs.Calls.{after}
 use Rattle.rules.specs.Histories.{run}
@@ -61,9 +60,9 @@ to-itself = refl
 abbrev twoProcesses : ℕ → Facility
 twoProcesses mac =
     putProcess (putProcess
-    (putUser (blank (record { mac = mac; fc = 0; sim = 0; ff = 0 })) (record { clearance = label 9; role = 0; trusted = 0 })) 0
-    (record { running = 1; owner = 0; current = label 3; readmark = label 2; writemark = label 7; automatic = 0; moves = 0 })) 1
-    (record { running = 1; owner = 0; current = label 3; readmark = label 1; writemark = label 8; automatic = 1; moves = 0 })
+    (putUser (blank (record { mac = mac; fc = 0; sim = 0; ff = 0 })) (record { clearance = level 9; role = 0; trusted = 0 })) 0
+    (record { running = 1; owner = 0; current = level 3; readmark = level 2; writemark = level 7; automatic = 0; moves = 0 })) 1
+    (record { running = 1; owner = 0; current = level 3; readmark = level 1; writemark = level 8; automatic = 1; moves = 0 })
 
 -- with MAC off no read mark is raised; with MAC on the write mark and automatic stay
 pub by-switch :

@@ -14,7 +14,7 @@ use Rattle.state.specs.Laws.ReadBack.{process-other}
 use Rattle.state.specs.State.{switchesOf, objectOf, runs, trustedUser, labelOf, clearanceOf, putProcess, freshProcess}
 use Rattle.opens.specs.Opens.{reading, writing}
 use Rattle.labels.specs.Labels.{Label, lawful, given, _⊑_}
-use Rattle.labels.specs.Laws.Labels.{⊑-refl, eq-same, join-least, bottom-least, below-lawful, lawful-given, lawful-level}
+use Rattle.labels.specs.Laws.Labels.{⊑-refl, eq-same, join-least, bottom-least, below-lawful, lawful-given, lawful-level, lawful-set}
 use Rattle.answers.specs.Answers.{passes}
 use Rattle.answers.specs.Laws.Answers.{grant-passes}
 use Rattle.rules.specs.Flow.{fourBytes, allFourBytes, loginsBy, MacAlone, Carries, ExactlyWhen}
@@ -115,7 +115,8 @@ module _ (f₀ : Facility) (F : Fresh f₀) (u x y : ℕ) (hx : x < f₀ .entere
 
   may-read : passes (macClass Reads (labelOf f₀ x) (freshProcess u) (clearanceOf f₀ u)) ≡ true
   unfolding macClass mayRead freshProcess
-  may-read = grant-passes _ (or-r _ _ (and-i _ _ refl (and-i _ _ lx cx)))
+  may-read =
+      grant-passes _ (or-r _ _ (and-i _ _ refl (and-i _ _ (join-least _ _ _ (bottom-least _) lx) (join-least _ _ _ (bottom-least _) cx))))
 
   may-write : mayWrite (labelOf f₀ y) (moveBy Reads (labelOf f₀ x) (freshProcess u)) (clearanceOf f₀ u) ≡ true
   unfolding moveBy mayWrite freshProcess
@@ -370,7 +371,9 @@ module _ (f₀ : Facility) (F : Fresh f₀) (u x y : ℕ) (hx : x < f₀ .entere
     unfolding actionOf
     plain-level p l cs h k P =
         let b : l .level ≤ 15 = leb-true _ _ (lawful-level l k) in
-        plain-more u (setTo p l) cs (and-i _ _ refl (and-i _ _ h (and-i _ _ refl (lt-ltb (l .level) 256 (omega arith))))) refl P
+        let d : l .set ≤ 255 = leb-true _ _ (lawful-set l k) in
+        plain-more u (setTo p l) cs
+        (and-i _ _ refl (and-i _ _ h (and-i _ _ (lt-ltb (l .set) 256 (omega arith)) (lt-ltb (l .level) 256 (omega arith))))) refl P
 
     plain-direct : Plain u direct
     unfolding direct

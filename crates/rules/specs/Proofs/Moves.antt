@@ -7,13 +7,14 @@ use Rattle.labels.specs.Decisions.{_and_, at, on}
 use Rattle.labels.specs.Laws.Decisions.{and-l, and-r, or-cases, clash, by-test}
 use Rattle.opens.specs.Opens.{mostProcesses}
 use Rattle.state.specs.State.{processOf, putProcess}
-use Rattle.labels.specs.Labels.{Label, label, given, _⊑_}
+use Rattle.labels.specs.Labels.{Label, given, _⊑_}
 use Rattle.labels.specs.Laws.Labels.{⊑-refl, ⊑-trans, same-eq, join-l, join-r, join-least, meet-l, meet-r, meet-greatest}
 use Rattle.answers.specs.Answers.{passes}
 use Rattle.answers.specs.Laws.Answers.{passes-grant}
 use Rattle.rules.specs.Requests.{SendSignal, Class, Absent, Reads, Writes, Both, NoCondition, observes, alters}
 use Rattle.rules.specs.Matter.{Set, Account}
-use Rattle.rules.specs.Modules.{View, classIn, mayRead, mayWrite, maySet, macClass, macObject, macSignal, macRule, moveBy, setLevel, moved, levelled}
+use Rattle.rules.specs.Modules.{View, classIn, wanted, mayRead, mayWrite, maySet, macClass, macObject, macSignal, macRule, moveBy, setLevel}
+use Rattle.rules.specs.Modules.{moved, levelled}
 use Rattle.rules.specs.Modules.{signalled}
 use Rattle.rules.specs.Proofs.Invariant.{Ordered, Knows, Fits, Inv, inv-process}
 
@@ -37,7 +38,7 @@ unmoved r o = record { running = refl; owner = refl; up = ⊑-refl _; down = ⊑
 read-under : (l : Label) (r : Process) (clr : Label) → Ordered r → mayRead l r clr ≡ true → l ⊑ (r .writemark)
 unfolding mayRead
 read-under l r clr o h =
-    or-cases _ _ h (λ e. ⊑-trans _ _ _ e (o .high)) (λ e. and-l _ _ (and-r _ _ e))
+    or-cases _ _ h (λ e. ⊑-trans _ _ _ e (o .high)) (λ e. ⊑-trans _ _ _ (join-r _ _) (and-l _ _ (and-r _ _ e)))
 
 -- a granted write lies between the marks
 write-over : (l : Label) (r : Process) (clr : Label) → Ordered r → mayWrite l r clr ≡ true → (r .readmark) ⊑ l
@@ -152,7 +153,7 @@ pub signalled-mark : (v : View) → on (v .switches .mac) ≡ true → on (v .ta
 unfolding signalled _and_
 signalled-mark v m u = rw (m, u)
 
--- a granted signal of an untrusted sender: both current levels are equal
+-- a granted signal of an untrusted sender: both current labels are equal
 pub signal-level : (v : View) (c : Call) → on (v .owner .trusted) ≡ false → passes (macRule SendSignal v c) ≡ true
     → v .caller .current ≡ v .target .receiver .current
 unfolding macRule macSignal
@@ -160,7 +161,7 @@ signal-level v c u h = or-cases _ _ (passes-grant _ h) (λ e. clash e u) (λ e. 
 
 -- set-level is a move
 pub levelled-moved : (v : View) (c : Call) → on (v .switches .mac) ≡ true
-    → maySet (label (c .extra)) (v .caller) (v .owner .clearance) ≡ true → Moved (v .caller) (levelled v c)
+    → maySet (wanted c) (v .caller) (v .owner .clearance) ≡ true → Moved (v .caller) (levelled v c)
 unfolding levelled setLevel maySet
 levelled-moved v c m h =
     rw m (record {

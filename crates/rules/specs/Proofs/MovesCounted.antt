@@ -1,4 +1,4 @@
--- Ticket 5: each process that runs carries the number of the moves in its history, and these are at most its owner's clearance plus 1.
+-- Ticket 5: each process that runs carries the number of the moves in its history, and these are at most the rank of its owner's clearance plus 1.
 use Prim.Native.Nat.{ℕ, _+_, _≤_, min}
 use mathlib.Core.Path.{_≡_, refl, sym, _∙_, ap, subst, subst⁻¹}
 use mathlib.Core.Logic.{_≢_}

@@ -18,9 +18,11 @@ use Rattle.answers.specs.Outcomes.{denies}
 use Rattle.state.specs.State.{mostUsers, objectIn, switchesOf, processOf, objectOf, userOf, live, putProcess, putOpens, putUser, putObject, dropObject}
 use Rattle.state.specs.State.{putRefusals, counted, freshProcess, noProcess, openBy}
 use Rattle.opens.specs.Opens.{mostProcesses, mostObjects, mostOpens}
-use Rattle.labels.specs.Labels.{Label, lawful, given}
-use Rattle.labels.specs.Laws.Labels.{⊑-refl, bottom-least, join-lawful, meet-lawful, level-lawful, lawful-level, unset-level}
+use Rattle.labels.specs.Labels.{allCategories, Label, _⊑_, lawful, given}
+use Rattle.labels.specs.Laws.Labels.{⊑-refl, bottom-least, below-lawful, join-lawful, meet-lawful, label-lawful, lawful-level, lawful-set, unset-level}
+use Rattle.labels.specs.Laws.Labels.{lawful-not-unset}
 use Rattle.answers.specs.Answers.{passes}
+use Rattle.answers.specs.Laws.Answers.{passes-grant}
 use Rattle.rules.specs.Effects.{firstFlags, firstParent, created, effectFrom, effectBy}
 use Rattle.rules.specs.Calls.{ownerIn, accepted, afterRefusal, after}
 use Rattle.rules.specs.Histories.{run}
@@ -28,7 +30,7 @@ use Rattle.rules.specs.Requests.{Action, Login, Clone, SendSignal, SetLe
 use Rattle.rules.specs.Requests.{Both, NoCondition, OpenChange, Keep, Add, Close, CloseAll, actionOf, inDirectory, openChange}
 use Rattle.rules.specs.Kinds.{switchesKind, usersKind, objectsKind, allowedBy}
 use Rattle.rules.specs.Setup.{switchesRecord, userRecord, objectRecord}
-use Rattle.rules.specs.Modules.{View, viewOf, classIn, macObject, macRule, moveBy, setLevel, moved, levelled, signalled}
+use Rattle.rules.specs.Modules.{View, viewOf, classIn, wanted, maySet, macObject, macRule, moveBy, setLevel, moved, levelled, signalled}
 use Rattle.rules.specs.Questions.{number}
 use Rattle.rules.specs.Proofs.Moves.{object-granted}
 use Rattle.rules.specs.Proofs.Classes.{request-create, create-directory}
@@ -155,14 +157,18 @@ pub allowed-kind : (o : Object) → allowedBy objectsKind (objectRecord o) ≡ t
 unfolding allowedBy
 allowed-kind o h = leb-true _ _ (and-l _ _ h)
 
+allowed-set : (o : Object) → allowedBy objectsKind (objectRecord o) ≡ true → leb (o .label .set) allCategories ≡ true
+unfolding allowedBy
+allowed-set o h = and-l _ _ (and-r _ _ (and-r _ _ (and-r _ _ (and-r _ _ (and-r _ _ (and-r _ _ h))))))
+
 pub allowed-label : (o : Object) → allowedBy objectsKind (objectRecord o) ≡ true → given (o .label) ≡ true → lawful (o .label) ≡ true
 unfolding allowedBy
 allowed-label o h g =
-    or-cases _ _ (and-l _ _ (and-r _ _ h)) (λ e. level-lawful _ e) (λ e. clash g (unset-level _ e))
+    or-cases _ _ (and-l _ _ (and-r _ _ h)) (λ e. label-lawful _ _ e (allowed-set o h)) (λ e. clash g (unset-level _ _ e))
 
 pub allowed-clearance : (u : User) → allowedBy usersKind (userRecord u) ≡ true → lawful (u .clearance) ≡ true
 unfolding allowedBy
-allowed-clearance u h = level-lawful _ (and-l _ _ h)
+allowed-clearance u h = label-lawful _ _ (and-l _ _ h) (and-l _ _ (and-r _ _ (and-r _ _ (and-r _ _ h))))
 
 -- a created object's bytes are allowed
 first-parent-small : (e t : ℕ) → firstParent e t ≤ 255
@@ -176,8 +182,8 @@ created-allowed : (r : Process) (e t : ℕ) → LawfulProcess r → leb e 3 ≡ 
 unfolding allowedBy firstFlags _and_ _or_
 created-allowed r e t L h =
     by-test (inDirectory e)
-    (λ d. rw (h, lawful-level _ (L .current), d, le-leb _ 255 (first-parent-small e t)) refl)
-    (λ d. rw (h, lawful-level _ (L .current), d, le-leb _ 255 (first-parent-small e t)) refl)
+    (λ d. rw (h, lawful-level _ (L .current), d, le-leb _ 255 (first-parent-small e t), lawful-set _ (L .current), lawful-not-unset _ (L .current)) refl)
+    (λ d. rw (h, lawful-level _ (L .current), d, le-leb _ 255 (first-parent-small e t), lawful-set _ (L .current), lawful-not-unset _ (L .current)) refl)
 
 -- and its parent is the directory that it is created in
 created-parent : (f : Facility) (r : Process) (e t : ℕ) → t < f .entered → kindAt f t ≡ 1 → ParentFit f (f .entered) ((created r e t) .parent)
@@ -222,11 +228,17 @@ moved-lawful v c L a p =
     rw (m, t) (move-lawful _ _ _ (allowed-label (v .target .object) a g) L)))
     (λ m. rw m L)
 
-levelled-lawful : (v : View) (c : Call) → LawfulProcess (v .caller) → leb (c .extra) 15 ≡ true → LawfulProcess (levelled v c)
+-- a granted set-level stays under the write mark
+set-under : (v : View) (c : Call) → passes (macRule SetLevel v c) ≡ true → wanted c ⊑ (v .caller .writemark)
+unfolding macRule maySet
+set-under v c h = and-l _ _ (and-r _ _ (passes-grant _ h))
+
+levelled-lawful : (v : View) (c : Call) → LawfulProcess (v .caller) → (on (v .switches .mac) ≡ true → passes (macRule SetLevel v c) ≡ true)
+    → LawfulProcess (levelled v c)
 unfolding levelled setLevel
 levelled-lawful v c L h =
     by-test (on (v .switches .mac))
-    (λ m. rw m (record { current = level-lawful _ h; readmark = L .readmark; writemark = L .writemark }))
+    (λ m. rw m (record { current = below-lawful _ _ (set-under v c (h m)) (L .writemark); readmark = L .readmark; writemark = L .writemark }))
     (λ m. rw m L)
 
 -- and a signal's receiver
@@ -293,7 +305,8 @@ module _ (f : Facility) (c : Call) (R : Regular f) where
   regular-effect SendSignal k q =
       regular-process f (c .target) _ R (ltb-true _ _ (q .signalled)) (signalled-lawful (viewOf f c) (R .process (c .target)))
   regular-effect SetLevel k q =
-      regular-process f (c .process) _ R (q .process) (levelled-lawful (viewOf f c) c (R .process (c .process)) (q .level))
+      regular-process f (c .process) _ R (q .process)
+      (levelled-lawful (viewOf f c) c (R .process (c .process)) (λ m. mac-passed SetLevel (viewOf f c) c q m))
   regular-effect Terminate k q =
       regular-opens _ _ (length-process-closed _ _ ∙ R .sound .shaped .opens)
       (regular-process f (c .process) _ R (q .process) none-lawful)

@@ -8,7 +8,7 @@ use Rattle.labels.specs.Decisions.{_and_, _or_, on}
 use Rattle.labels.specs.Laws.Decisions.{and-l, and-r, or-cases, clash, by-test}
 use Rattle.state.specs.State.{isAutomatic, freshProcess}
 use Rattle.labels.specs.Labels.{Label, same, join, rank, _⊑_}
-use Rattle.labels.specs.Laws.Labels.{⊑-refl, ⊑-trans, ⊑-antisym, same-eq, eq-same, join-l, join-least, meet-r, meet-greatest, bottom-least}
+use Rattle.labels.specs.Laws.Labels.{⊑-refl, ⊑-trans, ⊑-antisym, same-eq, eq-same, join-l, join-r, join-least, meet-r, meet-greatest, bottom-least}
 use Rattle.labels.specs.Laws.Labels.{rank-up, rank-over}
 use Rattle.answers.specs.Answers.{passes}
 use Rattle.answers.specs.Laws.Answers.{passes-grant}
@@ -121,7 +121,9 @@ settled-read n clr l r h o S =
     (λ a. ⊑-antisym _ _ (join-least _ _ _ (⊑-refl _) (or-cases _ _ h (λ e. e) (λ e. clash (and-l _ _ e) a))) (join-l _ _))
   where
     cleared : join (r .current) l ⊑ clr
-    cleared = join-least _ _ _ (S .cleared) (or-cases _ _ h (λ e. ⊑-trans _ _ _ e (S .cleared)) (λ e. and-r _ _ (and-r _ _ e)))
+    cleared =
+        join-least _ _ _ (S .cleared)
+        (or-cases _ _ h (λ e. ⊑-trans _ _ _ e (S .cleared)) (λ e. ⊑-trans _ _ _ (join-r _ _) (and-r _ _ (and-r _ _ e))))
 
 -- a granted write: between the marks, and with automatic off at the current level
 between : (n : ℕ) (clr l : Label) (r : Process) → mayWrite l r clr ≡ true → Settled n clr r → Between clr l r

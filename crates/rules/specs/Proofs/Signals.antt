@@ -26,13 +26,14 @@ put-mark : (f : Facility) (p : ℕ) (l : Label)
     → putProcess f p (withLevels (processOf f p) ((processOf f p) .current) l ((processOf f p) .writemark) ((processOf f p) .automatic)
     ((processOf f p) .moves))
     ≡ with f (f .users) (usersIn f) (f .entered) (objectsIn f)
-    (processesFrom (f .runnings) (f .owners) (f .currents) (set (f .readmarks) p (l .level)) (f .writemarks) (f .automatics) (f .moves))
-    (f .opens) (f .refusals)
+    (processesFrom (f .runnings) (f .owners) (f .currents) (set (f .readmarks) p (l .level)) (f .writemarks) (f .automatics) (f .moves)
+    (f .currentsets) (set (f .readsets) p (l .set)) (f .writesets)) (f .opens) (f .refusals)
 unfolding putProcess processIn
 put-mark f p l =
     λ i. with f (f .users) (usersIn f) (f .entered) (objectsIn f)
     (processesFrom (set-getD (f .runnings) p 0 i) (set-getD (f .owners) p 0 i) (set-getD (f .currents) p 0 i) (set (f .readmarks) p (l .level))
-    (set-getD (f .writemarks) p 0 i) (set-getD (f .automatics) p 0 i) (set-getD (f .moves) p 0 i)) (f .opens) (f .refusals)
+    (set-getD (f .writemarks) p 0 i) (set-getD (f .automatics) p 0 i) (set-getD (f .moves) p 0 i)
+    (set-getD (f .currentsets) p 0 i) (set (f .readsets) p (l .set)) (set-getD (f .writesets) p 0 i)) (f .opens) (f .refusals)
 
 -- a process is put back as it was
 process-kept : (f : Facility) (p : ℕ) → putProcess f p (processOf f p) ≡ f
@@ -40,8 +41,8 @@ unfolding processIn
 process-kept f p =
     put-mark f p ((processOf f p) .readmark)
     ∙ (λ i. with f (f .users) (usersIn f) (f .entered) (objectsIn f)
-    (processesFrom (f .runnings) (f .owners) (f .currents) (set-getD (f .readmarks) p 0 i) (f .writemarks) (f .automatics) (f .moves))
-    (f .opens) (f .refusals))
+    (processesFrom (f .runnings) (f .owners) (f .currents) (set-getD (f .readmarks) p 0 i) (f .writemarks) (f .automatics) (f .moves)
+    (f .currentsets) (set-getD (f .readsets) p 0 i) (f .writesets)) (f .opens) (f .refusals))
 
 module _ (f : Facility) (c : Call) (S : AcceptedSignal f c) where
   acts : actionOf (c .request) ≡ SendSignal

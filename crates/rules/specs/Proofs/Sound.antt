@@ -92,7 +92,12 @@ unfolding blank objectIn
 sound-blank s =
     record {
       shaped = record {
-        users = record { clearances = zeros-length mostUsers; roles = zeros-length mostUsers; trusts = zeros-length mostUsers };
+        users = record {
+          clearances = zeros-length mostUsers;
+          roles = zeros-length mostUsers;
+          trusts = zeros-length mostUsers;
+          clearancesets = zeros-length mostUsers;
+        };
         objects = record {
           lives = zeros-length mostObjects;
           kinds = zeros-length mostObjects;
@@ -101,6 +106,7 @@ sound-blank s =
           datatypes = zeros-length mostObjects;
           flags = zeros-length mostObjects;
           parents = zeros-length mostObjects;
+          sets = zeros-length mostObjects;
         };
         processes = record {
           runnings = zeros-length mostProcesses;
@@ -110,6 +116,9 @@ sound-blank s =
           writemarks = zeros-length mostProcesses;
           automatics = zeros-length mostProcesses;
           moves = zeros-length mostProcesses;
+          currentsets = zeros-length mostProcesses;
+          readsets = zeros-length mostProcesses;
+          writesets = zeros-length mostProcesses;
         };
         opens = zeros-length mostOpens;
         refusals = zeros-length mostUsers;
@@ -130,9 +139,9 @@ blank-process s p =
     λ i. record {
       running = at-zeros mostProcesses p i;
       owner = at-zeros mostProcesses p i;
-      current = label (at-zeros mostProcesses p i);
-      readmark = label (at-zeros mostProcesses p i);
-      writemark = label (at-zeros mostProcesses p i);
+      current = label (at-zeros mostProcesses p i) (at-zeros mostProcesses p i);
+      readmark = label (at-zeros mostProcesses p i) (at-zeros mostProcesses p i);
+      writemark = label (at-zeros mostProcesses p i) (at-zeros mostProcesses p i);
       automatic = at-zeros mostProcesses p i;
       moves = at-zeros mostProcesses p i;
     }

@@ -30,7 +30,7 @@ abbrev pub loginAs : ℕ → ℕ → Call
 loginAs p u = record { request = 21; process = p; target = 0; extra = u }
 
 abbrev pub setTo : ℕ → Label → Call
-setTo p l = record { request = 17; process = p; target = 0; extra = l .level }
+setTo p l = record { request = 17; process = p; target = l .set; extra = l .level }
 
 abbrev pub signal : ℕ → ℕ → Call
 signal p q = record { request = 16; process = p; target = q; extra = 0 }
@@ -121,7 +121,7 @@ module _ (p : ℕ) (f₀ f : Facility) (a : Account) (u : ℕ) (r : Process) (l 
       reach-call f a (setTo p l) SetLevel cs b x refl level-accepted refl
       (rw level-effect (R (put-scene p f₀ f a a u (setLevel l r) (S .setting) (S .small) (S .running) (S .owner) (λ t. refl))))
 
--- a signal from p to q, whose current levels are equal
+-- a signal from p to q, whose current labels are equal
 module _ (p q : ℕ) (f₀ f : Facility) (a : Account) (u : ℕ) (r s : Process) (S : Scene p f₀ f a u r) (Q : Scene q f₀ f a u s)
     (e : r .current ≡ s .current) where
   signal-answer : passes (macRule SendSignal (viewOf f (signal p q)) (signal p q)) ≡ true

@@ -12,11 +12,11 @@ use Rattle.setup.specs.Writing.{Stored}
 use Rattle.setup.proofs.WritingLoop.{Storing, section-begins, section-place, section-goes-on, section-length, section-ends}
 
 abbrev Inv-loop : tie.InvT-loop
-Inv-loop out₀ start clearances roles trusts n place₀ k₀ out place k =
-    Storing userRecord every (userIn (usersFrom clearances roles trusts)) n out₀ start k out place
+Inv-loop out₀ start clearances roles trusts clearancesets n place₀ k₀ out place k =
+    Storing userRecord every (userIn (usersFrom clearances roles trusts clearancesets)) n out₀ start k out place
 
 abbrev μ-loop : tie.MeasureT-loop
-μ-loop out₀ start clearances roles trusts n place₀ k₀ out place k = n - k
+μ-loop out₀ start clearances roles trusts clearancesets n place₀ k₀ out place k = n - k
 
 loop-holds : tie.Need-loop-holds Inv-loop μ-loop
 loop-holds c = section-begins
@@ -24,7 +24,7 @@ loop-holds c = section-begins
 put-record-requires : tie.Need-put-record-requires Inv-loop μ-loop
 put-record-requires c κs =
     let c4 = c .before .before .before .before in
-    let b = c4 .before .before .before .before .before in
+    let b = c4 .before .before .before .before .before .before in
     section-place (c4 .loop .inv) (b .pre) (search (needs, b .fits))
 
 loop-again : tie.Need-loop-again Inv-loop μ-loop

@@ -16,16 +16,16 @@ use Rattle.setup.proofs.WritingLoop.{put-none, no-room, all-room}
 -- the facility whose set-up is written
 abbrev facility-of : tie.After-put-sections → Facility
 facility-of c =
-    let a = c .before .before .before .before .before .before .before .before .before .before .before .before .before .args in
-    facilityWith (a .switches) (a .users) (usersFrom (a .clearances .now) (a .roles .now) (a .trusts .now)) (a .entered)
-    (objectsFrom (a .lives .now) (a .kinds .now) (a .levels .now) (a .categories .now) (a .datatypes .now) (a .flags .now) (a .parents .now))
+    let a = c .before .before .before .before .before .before .before .before .before .before .before .before .before .before .before .args in
+    facilityWith (a .switches) (a .users) (usersFrom (a .clearances .now) (a .roles .now) (a .trusts .now) (a .clearancesets .now)) (a .entered)
+    (objectsFrom (a .lives .now) (a .kinds .now) (a .levels .now) (a .categories .now) (a .datatypes .now) (a .flags .now) (a .parents .now) (a .sets .now))
 
 returns : tie.Need-returns
 returns c =
     let first = c .before .before .before in
     let p = first .put-sections in
     let f = facility-of first in
-    let o = first .before .before .before .before .before .before .before .before .before .before .before .before .before .args .out .now in
+    let o = first .before .before .before .before .before .before .before .before .before .before .before .before .before .before .before .args .out .now in
     let e = p .ensures .buffer ∙ put-none 0 (setupRecords f) in
     let h : length o < p .result = subst (λ (q : List ℕ). length (q ++ o) < p .result) e (c .if1 .taken) in
     let r = no-room f o _ _ (p .result) (p .ensures) h in
@@ -37,7 +37,7 @@ returns-2 c =
     let first = c .before .before .before .before .before .before .before in
     let p = first .put-sections in
     let f = facility-of first in
-    let o = first .before .before .before .before .before .before .before .before .before .before .before .before .before .args .out .now in
+    let o = first .before .before .before .before .before .before .before .before .before .before .before .before .before .before .before .args .out .now in
     let e = p .ensures .buffer ∙ put-none 0 (setupRecords f) in
     let h : p .result ≤ length o = subst (λ (x : List ℕ). p .result ≤ length (x ++ o)) e (c .before .before .before .before .if1 .left) in
     let s = subst (λ (x : List ℕ). Stored (x ++ o) 0 (setupRecords f) (q .last .0) (q .result)) e (q .ensures) in

@@ -9,8 +9,8 @@ use Rattle.setup.specs.Laws.{parts-written}
 returns : tie.Need-returns
 returns c =
     let written = c .before .before .write-parts in
-    let f = c .before .before .before .before .before .before .before .before .before .before .before .before .before in
-    let a = f .before .before .before .before .before .before .before .before .before .before .before .before .before .args in
+    let f = c .before .before .before .before .before .before .before .before .before .before .before .before .before .before .before in
+    let a = f .before .before .before .before .before .before .before .before .before .before .before .before .before .before .before .args in
     let e = parts-written (a .t1) (a .out .now) in
     (written .ensures .0 ∙ ap (λ (w : Writing). w .outcome) e, written .ensures .1 ∙ ap (λ (w : Writing). w .buffer) e)
 

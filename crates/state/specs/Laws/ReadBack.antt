@@ -33,9 +33,15 @@ process-same f p r s h =
     λ i. record {
       running = at-same (f .runnings) p (r .running) mostProcesses (l .runnings) h i;
       owner = at-same (f .owners) p (r .owner) mostProcesses (l .owners) h i;
-      current = label (at-same (f .currents) p (r .current .level) mostProcesses (l .currents) h i);
-      readmark = label (at-same (f .readmarks) p (r .readmark .level) mostProcesses (l .readmarks) h i);
-      writemark = label (at-same (f .writemarks) p (r .writemark .level) mostProcesses (l .writemarks) h i);
+      current =
+          label (at-same (f .currents) p (r .current .level) mostProcesses (l .currents) h i)
+          (at-same (f .currentsets) p (r .current .set) mostProcesses (l .currentsets) h i);
+      readmark =
+          label (at-same (f .readmarks) p (r .readmark .level) mostProcesses (l .readmarks) h i)
+          (at-same (f .readsets) p (r .readmark .set) mostProcesses (l .readsets) h i);
+      writemark =
+          label (at-same (f .writemarks) p (r .writemark .level) mostProcesses (l .writemarks) h i)
+          (at-same (f .writesets) p (r .writemark .set) mostProcesses (l .writesets) h i);
       automatic = at-same (f .automatics) p (r .automatic) mostProcesses (l .automatics) h i;
       moves = at-same (f .moves) p (r .moves) mostProcesses (l .moves) h i;
     }
@@ -46,9 +52,9 @@ process-other f p q r h =
     λ i. record {
       running = at-other (f .runnings) p q (r .running) h i;
       owner = at-other (f .owners) p q (r .owner) h i;
-      current = label (at-other (f .currents) p q (r .current .level) h i);
-      readmark = label (at-other (f .readmarks) p q (r .readmark .level) h i);
-      writemark = label (at-other (f .writemarks) p q (r .writemark .level) h i);
+      current = label (at-other (f .currents) p q (r .current .level) h i) (at-other (f .currentsets) p q (r .current .set) h i);
+      readmark = label (at-other (f .readmarks) p q (r .readmark .level) h i) (at-other (f .readsets) p q (r .readmark .set) h i);
+      writemark = label (at-other (f .writemarks) p q (r .writemark .level) h i) (at-other (f .writesets) p q (r .writemark .set) h i);
       automatic = at-other (f .automatics) p q (r .automatic) h i;
       moves = at-other (f .moves) p q (r .moves) h i;
     }
@@ -59,7 +65,9 @@ unfolding userIn putUser
 user-new f u s h =
     let l = s .users in
     λ i. record {
-      clearance = label (at-same (f .clearances) (f .users) (u .clearance .level) mostUsers (l .clearances) h i);
+      clearance =
+          label (at-same (f .clearances) (f .users) (u .clearance .level) mostUsers (l .clearances) h i)
+          (at-same (f .clearancesets) (f .users) (u .clearance .set) mostUsers (l .clearancesets) h i);
       role = at-same (f .roles) (f .users) (u .role) mostUsers (l .roles) h i;
       trusted = at-same (f .trusts) (f .users) (u .trusted) mostUsers (l .trusts) h i;
     }
@@ -68,7 +76,8 @@ pub user-old : (f : Facility) (u : User) (v : ℕ) → v ≢ f .users → userOf
 unfolding userIn putUser
 user-old f u v h =
     λ i. record {
-      clearance = label (at-other (f .clearances) (f .users) v (u .clearance .level) h i);
+      clearance =
+          label (at-other (f .clearances) (f .users) v (u .clearance .level) h i) (at-other (f .clearancesets) (f .users) v (u .clearance .set) h i);
       role = at-other (f .roles) (f .users) v (u .role) h i;
       trusted = at-other (f .trusts) (f .users) v (u .trusted) h i;
     }
@@ -80,7 +89,9 @@ object-new f o s h =
     λ i. record {
       live = at-same (f .lives) (f .entered) (o .live) mostObjects (l .lives) h i;
       kind = at-same (f .kinds) (f .entered) (o .kind) mostObjects (l .kinds) h i;
-      label = label (at-same (f .levels) (f .entered) (o .label .level) mostObjects (l .levels) h i);
+      label =
+          label (at-same (f .levels) (f .entered) (o .label .level) mostObjects (l .levels) h i)
+          (at-same (f .sets) (f .entered) (o .label .set) mostObjects (l .sets) h i);
       category = at-same (f .categories) (f .entered) (o .category) mostObjects (l .categories) h i;
       datatype = at-same (f .datatypes) (f .entered) (o .datatype) mostObjects (l .datatypes) h i;
       flags = at-same (f .flags) (f .entered) (o .flags) mostObjects (l .flags) h i;
@@ -93,7 +104,7 @@ object-old f o t h =
     λ i. record {
       live = at-other (f .lives) (f .entered) t (o .live) h i;
       kind = at-other (f .kinds) (f .entered) t (o .kind) h i;
-      label = label (at-other (f .levels) (f .entered) t (o .label .level) h i);
+      label = label (at-other (f .levels) (f .entered) t (o .label .level) h i) (at-other (f .sets) (f .entered) t (o .label .set) h i);
       category = at-other (f .categories) (f .entered) t (o .category) h i;
       datatype = at-other (f .datatypes) (f .entered) t (o .datatype) h i;
       flags = at-other (f .flags) (f .entered) t (o .flags) h i;
@@ -125,6 +136,9 @@ shaped-process f p r s =
         writemarks = simp length-set (l .writemarks);
         automatics = simp length-set (l .automatics);
         moves = simp length-set (l .moves);
+        currentsets = simp length-set (l .currentsets);
+        readsets = simp length-set (l .readsets);
+        writesets = simp length-set (l .writesets);
       };
       opens = s .opens;
       refusals = s .refusals;
@@ -143,6 +157,7 @@ shaped-user f u s =
         clearances = simp length-set (l .clearances);
         roles = simp length-set (l .roles);
         trusts = simp length-set (l .trusts);
+        clearancesets = simp length-set (l .clearancesets);
       };
       objects = s .objects;
       processes = s .processes;
@@ -164,6 +179,7 @@ shaped-object f o s =
         datatypes = simp length-set (l .datatypes);
         flags = simp length-set (l .flags);
         parents = simp length-set (l .parents);
+        sets = simp length-set (l .sets);
       };
       processes = s .processes;
       opens = s .opens;
@@ -184,6 +200,7 @@ shaped-drop f t s =
         datatypes = l .datatypes;
         flags = l .flags;
         parents = l .parents;
+        sets = l .sets;
       };
       processes = s .processes;
       opens = s .opens;
@@ -218,7 +235,10 @@ process-out f p r s h =
     (out (f .readmarks) (r .readmark .level) (s .readmarks) i)
     (out (f .writemarks) (r .writemark .level) (s .writemarks) i)
     (out (f .automatics) (r .automatic) (s .automatics) i)
-    (out (f .moves) (r .moves) (s .moves) i))
+    (out (f .moves) (r .moves) (s .moves) i)
+    (out (f .currentsets) (r .current .set) (s .currentsets) i)
+    (out (f .readsets) (r .readmark .set) (s .readsets) i)
+    (out (f .writesets) (r .writemark .set) (s .writesets) i))
     (f .opens) (f .refusals)
   where
     out : (l : List ℕ) (v : ℕ) → length l ≡ mostProcesses → set l p v ≡ l
@@ -263,7 +283,8 @@ pub drop-out : (f : Facility) (t : ℕ) → length (f .lives) ≡ mostObjects �
 unfolding dropObject
 drop-out f t e h =
     λ i. with f (f .users) (usersIn f) (f .entered)
-    (objectsFrom (set-out (f .lives) t 0 (omega arith) i) (f .kinds) (f .levels) (f .categories) (f .datatypes) (f .flags) (f .parents))
+    (objectsFrom (set-out (f .lives) t 0 (omega arith) i) (f .kinds) (f .levels) (f .categories) (f .datatypes) (f .flags) (f .parents)
+    (f .sets))
     (processesIn f) (f .opens) (f .refusals)
 
 -- a process that is none is put, and its marks become g of what they were

@@ -17,7 +17,8 @@ live c =
     let a = c9 .before .before .args in
     let x = a .v .target in
     rw (eq-eqb _ 1 (c9 .if1 .taken))
-    (stores (a .out .now) (a .place) (filled (ascii " object # (%, level $") (a .c .target ∷ x .object .kind ∷ x .object .label .level ∷ []))
+    (stores (a .out .now) (a .place)
+    (filled (ascii " object # (%, level $*") (a .c .target ∷ x .object .kind ∷ x .object .label .level ∷ x .object .label .set ∷ []))
     (flagsText (x .flags) ∷ ascii ")" ∷ []) (c5 .put-filled .ensures ▸ c3 .put-flags .ensures ▸ c .put-text .ensures ▸ end))
 
 pub put-object-spec : {M : Type 1} → statement M

@@ -18,14 +18,14 @@ running c =
     let r = a .r in
     rw (eq-eqb _ 1 (c7 .if1 .taken))
     (stores (a .out .now) (a .place)
-    (filled (ascii "user #, clearance #, current #, marks # to #, moved # times of at most ")
-    (r .owner ∷ a .u .clearance .level ∷ r .current .level ∷ r .readmark .level ∷ r .writemark .level ∷ r .moves ∷ []))
+    (filled (ascii "user #, clearance #*, current #*, marks #* to #*, moved # times of at most ")
+    (r .owner ∷ a .u .clearance .level ∷ a .u .clearance .set ∷ r .current .level ∷ r .current .set ∷ r .readmark .level ∷ r .readmark .set
+    ∷ r .writemark .level ∷ r .writemark .set ∷ r .moves ∷ []))
     (decimal _ ∷ [])
-    (c3 .put-filled .ensures ▸ rw (c1 .rank .ensures) at (c .put-decimal .ensures) ▸ end))
+    (c3 .put-filled .ensures ▸ rw (c1 .most-moves .ensures) at (c .put-decimal .ensures) ▸ end))
 
 pub put-process-spec : {M : Type 1} → statement M
 put-process-spec =
     tie.close
-    (tie.spec (λ c. search needs) (λ c. search needs) (λ c κs. search needs) (λ c κs. search needs) (λ c. search needs) (λ c. search needs)
-    (λ c κs. search needs) running
+    (tie.spec (λ c. search needs) (λ c. search needs) (λ c κs. search needs) (λ c κs. search needs) (λ c. search needs) (λ c κs. search needs) running
     (λ c. search needs) (λ c κs. search needs) (λ c. rw (ne-eqb _ 1 (c .before .before .before .if1 .left)) (c .put-text .ensures)))

@@ -35,16 +35,21 @@ number : tie.Need-returns-7
 unfolding said
 number c = rw (c .before .before .match .keys7) (c .put-number .ensures)
 
-itself : tie.Need-returns-8
+set : tie.Need-returns-8
+unfolding said
+set c = rw (c .before .before .match .keys8) (c .put-set .ensures)
+
+itself : tie.Need-returns-9
 itself c =
     let a = c .before .before .before .before .args in
     let m = c .before .before .before .match .rest in
     as-text (a .out .now) _ (a .x ∷ []) _ (a .place) _
-    (said-itself (a .x) (a .n) (m .0 .0 .0 .0 .0 .0 .1) (m .0 .0 .0 .0 .0 .1) (m .0 .0 .0 .0 .1) (m .0 .0 .0 .1) (m .0 .0 .1) (m .0 .1) (m .1))
+    (said-itself (a .x) (a .n) (m .0 .0 .0 .0 .0 .0 .0 .1) (m .0 .0 .0 .0 .0 .0 .1) (m .0 .0 .0 .0 .0 .1) (m .0 .0 .0 .0 .1) (m .0 .0 .0 .1) (m .0 .0 .1)
+    (m .0 .1) (m .1))
     (c .put-text .ensures)
 
 pub put-said-spec : {M : Type 1} → statement M
 put-said-spec =
     tie.close
     (tie.spec (λ c κs. search needs) (λ c κs. search needs) (λ c κs. search needs) (λ c κs. search needs) (λ c κs. search needs) (λ c κs. search needs)
-    (λ c κs. search needs) (λ c. search needs) (λ c κs. search needs) decimal level kind request answer flag number itself)
+    (λ c κs. search needs) (λ c κs. search needs) (λ c. search needs) (λ c κs. search needs) decimal level kind request answer flag number set itself)

@@ -3,9 +3,10 @@ use Rattle.labels.proofs.Label.same.Statement.{statement}
 use Rattle.labels.proofs.Label.same.Tie as tie
 use mathlib.Core.Path.{refl}
 use Rattle.labels.specs.Labels.{same}
+use Rattle.labels.specs.Decisions.{_and_}
 
 returns : tie.Need-returns
-unfolding same
+unfolding same _and_
 returns c = refl
 
 pub same-spec : {M : Type 1} → statement M

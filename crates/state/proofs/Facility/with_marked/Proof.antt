@@ -30,6 +30,7 @@ returns-3 c =
     let a = c .before .before .args in
     let f = a .t1 in
     let g = c .before .before .good .0 .1 .1 .1 .1 .1 .1 .1 .1 .1 .1 .1 .1 .1 .1 .1 in
+    let m = g .1 .1 .1 .1 .1 .1 .1 .1 .1 .1 .1 in
     let s : ProcessesShaped (processesIn f) =
     record {
       runnings = length-unmapped ℕ (f .runnings) mostProcesses (g .0 .1 .0 .1);
@@ -38,7 +39,10 @@ returns-3 c =
       readmarks = length-unmapped ℕ (f .readmarks) mostProcesses (g .1 .1 .1 .0 .1 .0 .1);
       writemarks = length-unmapped ℕ (f .writemarks) mostProcesses (g .1 .1 .1 .1 .0 .1 .0 .1);
       automatics = length-unmapped ℕ (f .automatics) mostProcesses (g .1 .1 .1 .1 .1 .0 .1 .0 .1);
-      moves = length-unmapped ℕ (f .moves) mostProcesses (g .1 .1 .1 .1 .1 .1 .1 .1 .1 .1 .1 .0 .1 .0 .1);
+      moves = length-unmapped ℕ (f .moves) mostProcesses (m .0 .1 .0 .1);
+      currentsets = length-unmapped ℕ (f .currentsets) mostProcesses (m .1 .1 .1 .0 .1 .0 .1);
+      readsets = length-unmapped ℕ (f .readsets) mostProcesses (m .1 .1 .1 .1 .0 .1 .0 .1);
+      writesets = length-unmapped ℕ (f .writesets) mostProcesses (m .1 .1 .1 .1 .1 .0 .1 .0 .1);
     } in
     let n : length (f .opens) ≡ mostOpens = length-unmapped ℕ (f .opens) mostOpens (g .1 .1 .1 .1 .1 .1 .0 .1 .0 .1) in
     sym (marks-of-none f (a .p) (a .t) (λ x. marksAfter (a .change) x) (a .r) s n (c .if1 .left))
@@ -47,4 +51,5 @@ pub with-marked-spec : {M : Type 1} → statement M
 with-marked-spec =
     tie.close
     (tie.spec (λ c κs. search needs) (λ c. search needs) (λ c. search needs) (λ c. search needs) (λ c. search needs) (λ c. search needs)
-    (λ c. search needs) (λ c. search needs) (λ c. search needs) (λ c κs. search needs) (λ c κs. search needs) (λ c. search needs) returns returns-2 returns-3)
+    (λ c. search needs) (λ c. search needs) (λ c. search needs) (λ c. search needs) (λ c. search needs) (λ c. search needs)
+    (λ c κs. search needs) (λ c κs. search needs) (λ c. search needs) returns returns-2 returns-3)

@@ -15,4 +15,5 @@ returns-2 c = rw (le-ltb _ _ (c .if1 .left))
 
 pub with-user-spec : {M : Type 1} → statement M
 with-user-spec =
-    tie.close (tie.spec (λ c. search needs) (λ c. search needs) (λ c. search needs) (λ c. search needs) (λ c. search needs) returns returns-2)
+    tie.close (tie.spec (λ c. search needs) (λ c. search needs) (λ c. search needs) (λ c. search needs) (λ c. search needs)
+    (λ c. search needs) returns returns-2)
