@@ -115,7 +115,7 @@ def sections():
     flat, deep = ([timed(line) for line in measured if line[0] == sort] for sort in ("flat", "deep"))
     trials, taken = [line[1:] for line in measured if line[0] == "agreement"][0]
     copies = [line[1:] for line in lines("copies")]
-    times, accepted, stack = programs.measured()
+    times, accepted = programs.measured()
     return {
         "agreement": "Measured on: %s.\nAgreement before it: %s random calls, %s accepted, none differs." % (machine(pinned, load), trials, taken),
         "calls": table(["ns for each call", "where it is: proved", "plain C", "ratio", "million/s", "spread", "by value: proved", "plain C",
@@ -129,7 +129,6 @@ def sections():
                     + "\n\n%d calls, %d accepted; the model's seconds are ten times those of a tenth of the calls." % (programs.CALLS, accepted),
         "copies": table(["call", "copies"], copies),
         "targets": table(["", "asked for", "where it is", "by value", "plain C by value"], target_rows(calls, times)),
-        "stack": "The run program needs %s KB of stack (64 KB of it the output buffer)." % stack,
     }
 
 

@@ -64,19 +64,6 @@ def in_turns(folder, path, part):
     return {name: (min(t), statistics.median(t)) for name, t in taken.items()}
 
 
-def ends_well(size, folder, data, expected):
-    """Whether the run program writes what is expected with a stack of that many KB."""
-    got = subprocess.run(["sh", "-c", "ulimit -s %d; exec \"$0\"" % size] + PROVED, cwd=folder, input=data, stdout=subprocess.PIPE,
-                         stderr=subprocess.DEVNULL, check=False)
-    return got.returncode == 0 and got.stdout == expected
-
-
-def stack(folder, data):
-    """The least stack, in KB, with which the run program ends well ten times; the system places it at random."""
-    expected = output(PROVED, folder, data)
-    return next((size for size in range(64, 1024, 8) if all(ends_well(size, folder, data, expected) for _ in range(10))), None)
-
-
 def write(path, data):
     with open(path, "wb") as file:
         file.write(data)
@@ -84,7 +71,7 @@ def write(path, data):
 
 
 def measured():
-    """Best and median of each program in seconds for all calls; the calls that were accepted; the stack. Ends where two outputs differ."""
+    """Best and median of each program in seconds for all calls; the calls that were accepted. Ends where two outputs differ."""
     rng = random.Random(1)
     with tempfile.TemporaryDirectory(prefix="bench-") as folder:
         write(os.path.join(folder, "setup.bin"), setup(rng))
@@ -97,5 +84,4 @@ def measured():
         if modelled != b"".join(line + b"\n" for line in got.split(b"\n")[:MODEL_CALLS]):
             sys.exit("the model differs")
         accepted = sum(1 for line in got.split(b"\n") if line.split(b" ")[5:6] == [b"0"])
-        times = in_turns(folder, write(os.path.join(folder, "calls"), data), write(os.path.join(folder, "part"), part))
-        return times, accepted, stack(folder, data[:400000])
+        return in_turns(folder, write(os.path.join(folder, "calls"), data), write(os.path.join(folder, "part"), part)), accepted

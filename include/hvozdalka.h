@@ -3,8 +3,8 @@
  *
  * Every function below is total: it ends, for any bytes, any numbers and any facility, and what it returns is given by a definition
  * that it is proved equal to; the definition is named in brackets, and stands in the specs/ folder of the crate named with it. No
- * function allocates, keeps state of its own, or reads or writes anything but its arguments, so any of them may be called from several
- * threads at once.
+ * function allocates, keeps state of its own, or reads or writes anything but its arguments. So threads may use different facilities at
+ * once, and may read one at once while nobody changes it; one facility is changed by one thread at a time.
  *
  * Two things are kept apart: a USER has a `clearance`, fixed by the set-up; a PROCESS has a `current` label, a read mark and a write
  * mark, which move with its calls. So are an object's own flags, which it was entered with, and its effective ones, which it has from them
@@ -20,14 +20,18 @@
  * owner: the clearance's level plus its number of categories plus 1.
  *
  * A facility is a value: hv_enforce takes one and returns the next. hv_enforce_at changes one where it is, which is faster; it is proved
- * to do the same.
+ * to do the same. A query reserves nothing: what it says, or whatever else is read of a facility, holds until the next call on that facility, and
+ * only enforce permits.
  *
- * With a signal (HV_SEND_SIGNAL) the desktop may send a value of four bytes, outside the call's bytes: only after enforce returned HV_ACCEPTED (a
- * query permits nothing), to process t of that call, once. After any other number nothing may be sent. The receiver then counts as having read what
- * the sender has: it holds the sender's matter, and with MAC on its read mark is its current label, unless its owner is trusted. What else passes
- * from one process to another is in no account here, so the desktop must not let it pass.
+ * The promise of flow (demand 3, docs/PROVED.md) is of facilities that came from a set-up by calls alone. A facility's memory is the caller's to
+ * protect: a byte that somebody else writes there is believed.
  *
- * Bytes are passed as a pointer and a length. With length 0 the pointer may be anything but null; `out` must not overlap other arguments.
+ * With a signal (HV_SEND_SIGNAL) the desktop may send a value of four bytes, outside the call's bytes: only after enforce returned HV_ACCEPTED, to
+ * process t of that call, once. After any other number nothing may be sent. The receiver then counts as having read what the sender has: it holds
+ * the sender's matter, and with MAC on its read mark is its current label, unless its owner is trusted. What else passes from one process to another
+ * is in no account here, so the desktop must not let it pass.
+ *
+ * Bytes are passed as a pointer and a length. With length 0 the pointer may be anything, also NULL; `out` must not overlap other arguments.
  */
 #ifndef HVOZDALKA_H
 #define HVOZDALKA_H
@@ -40,6 +44,10 @@
 extern "C" {
 #endif
 
+/* The version of these declarations and the size of a facility, to be compared with hv_version() and hv_facility_size() of the library that is linked. */
+#define HV_VERSION 7
+#define HV_FACILITY_SIZE 5580
+
 /* Limits: users, processes and objects of a facility, and bytes of a set-up. */
 #define HV_USERS 16
 #define HV_PROCESSES 32
@@ -49,6 +57,18 @@ extern "C" {
 /* The bytes that a line of hv_put_block and hv_put_block_at has at most, and `short`. */
 #define HV_LINE_MOST 49
 #define HV_SHORT_MOST 6
+
+/* The bytes of a buffer for a line in words, and those that a word of hv_request_words and its like, and the text of hv_why_words, has at most. */
+#define HV_WORDS_ROOM 65536
+#define HV_WORD_MOST 31
+#define HV_WHY_MOST 212
+
+/* The bytes of stack that a function needs at most, its arguments and its result by value not among them: the caller has these. Read off the machine
+ * code by tools/stack, which checks the lists below; 4,096 bytes are for memcpy or memset of the C library. */
+#define HV_STACK_AT 8192             /* every function that is in neither of the next two lists */
+#define HV_STACK_BY_VALUE 20480      /* hv_query, hv_why, hv_why_words, hv_write_setup, hv_user, hv_process, hv_object, hv_most_moves, hv_effective_flags,
+                                      * hv_flag_source, hv_open_marks, hv_refusals, hv_summary, hv_account_start, hv_account_holds */
+#define HV_STACK_MOST 98304          /* hv_enforce, hv_read_setup, hv_read_setup_at, hv_replay, hv_holds, hv_account_step, hv_put_block, hv_put_words */
 
 /* Requests: byte 0 of a call. Byte 1 is the process p, byte 2 the target t, byte 3 the extra e. */
 enum hv_request {
@@ -109,6 +129,11 @@ enum hv_role { HV_GENERAL = 0, HV_SECURITY_OFFICER = 1, HV_SYSTEM_ADMINISTRATOR 
 enum hv_marks { HV_OPEN_READING = 1, HV_OPEN_WRITING = 2 };
 #define HV_UNSET 255
 
+/* Kinds of set-up record: byte 0 of one. Categories that FC looks at, and data types, of an object. */
+enum hv_record { HV_USER_RECORD = 1, HV_OBJECT_RECORD = 2, HV_SWITCHES_RECORD = 3 };
+enum hv_category { HV_CATEGORY_GENERAL = 0, HV_CATEGORY_SECURITY = 1, HV_CATEGORY_SYSTEM = 2 };
+enum hv_data_type { HV_NO_TYPE = 0, HV_SECURITY_INFORMATION = 1 };
+
 /* The set of a label that has all eight categories. */
 #define HV_ALL_CATEGORIES 255
 
@@ -164,8 +189,30 @@ typedef struct hv_facility {
  * create gave (else 255), and the answer of FF, the file flags. */
 typedef struct hv_outcome { uint8_t number, mac, fc, sim, combined, object, ff; } hv_outcome;
 
+/* The conditions that failed where a call is refused with 12 or 13, by module. The label that they are about is object t's; of HV_SET_LEVEL it is the one
+ * wanted; of a request of class R it is the least one above object t's and the current one. The owner is the user who owns process p. */
+typedef struct hv_failed {
+    bool unset;                                 /* MAC: the object's level is unset */
+    bool fixed;                                 /* MAC: automatic is off, and the current label would have to move */
+    bool clearance, writemark;                  /* MAC: the owner's clearance does not dominate the label; the write mark does not */
+    bool readmark;                              /* MAC: the label does not dominate the read mark */
+    bool receiver;                              /* MAC: the current labels of the sender and the receiver differ */
+    bool nocategory, category;                  /* FC: the object's category is unset; it is set, not general, and not that of the owner's role */
+    bool datatype;                              /* SIM: the object is security information, and the owner no security officer */
+    uint8_t flag;                               /* FF: the first flag that forbids, of hv_flag, or 0; hv_flag_source tells whose own it is */
+} hv_failed;
+
 typedef struct hv_enforced { hv_facility facility; hv_outcome outcome; } hv_enforced;
 typedef struct hv_reading { hv_facility facility; uint8_t number; uint16_t index; } hv_reading;
+typedef struct hv_setup_numbers { uint8_t number; uint16_t index; } hv_setup_numbers;
+typedef struct hv_held { bool holds; uint8_t number; uint16_t index; } hv_held;
+
+/* The account of matter: the next object number, kinds by object number, and the sets of object numbers that objects and processes hold, two words each. */
+typedef struct hv_account {
+    uint8_t next, kinds[HV_OBJECTS];
+    uint64_t objects[2 * HV_OBJECTS], processes[2 * HV_PROCESSES];
+} hv_account;
+
 typedef struct hv_writing { size_t length; uint8_t number; } hv_writing;
 typedef struct hv_printed { hv_facility facility; size_t length; } hv_printed;
 
@@ -177,6 +224,9 @@ typedef struct hv_summary_record { uint8_t mac, fc, sim, users, entered, ff; } h
 /* Reads a set-up. Number 0 and the fresh facility; or the number 14 to 17 or 19, the index of the record refused (0 with 14), and the facility
  * of a switches record with all off. [readSetup, rules/Setup] */
 hv_reading hv_read_setup(const uint8_t *bytes, size_t length);
+
+/* The same into a facility where it is, whose padding stays. [readSetup, rules/Setup, of facilityAt, in_place/Layout] */
+hv_setup_numbers hv_read_setup_at(const uint8_t *bytes, size_t length, hv_facility *f);
 
 /* Writes a facility's set-up into `out`: switches, users, live objects in order, each with its parent by the new number (0 where the parent
  * was deleted). Number 0 and the length, and later bytes are untouched; or number 18 and length 0 where `out` is too short, and it is
@@ -199,12 +249,30 @@ hv_enforced hv_enforce(hv_facility f, uint8_t request, uint8_t process, uint8_t 
 hv_outcome hv_query_at(const hv_facility *f, uint8_t request, uint8_t process, uint8_t target, uint8_t extra);
 hv_outcome hv_enforce_at(hv_facility *f, uint8_t request, uint8_t process, uint8_t target, uint8_t extra);
 
-/* The facility of a set-up after calls of four bytes each; one to three left-over bytes are no call. [replayed, history/Replayed] */
-hv_facility hv_replay(const uint8_t *setup, size_t setup_length, const uint8_t *calls, size_t calls_length);
+/* Which conditions fail where this call is refused with 12 or 13; all false and flag 0 with any other number. It may be asked before the refused call or
+ * after it, which changes none of them. [failedOf, reasons/Reasons] */
+hv_failed hv_why(hv_facility f, uint8_t request, uint8_t process, uint8_t target, uint8_t extra);
+hv_failed hv_why_at(const hv_facility *f, uint8_t request, uint8_t process, uint8_t target, uint8_t extra);
 
-/* Whether object x holds the matter of object c after the calls. An accepted signal carries: its receiver holds what it held and what the sender
- * holds, with MAC on or off, whoever owns them, and what it writes later holds it too. [holds, rules/Matter] */
-bool hv_holds(const uint8_t *setup, size_t setup_length, const uint8_t *calls, size_t calls_length, uint8_t x, uint8_t c);
+/* The same in words, each as ` (label not under the clearance)` or ` (read-only of object 3)`, at the front of `out`: how many bytes; what does not fit
+ * is cut off, and HV_WHY_MOST hold any. [whyText, names/Reasons] */
+size_t hv_why_words(hv_facility f, uint8_t request, uint8_t process, uint8_t target, uint8_t extra, uint8_t *out, size_t length);
+size_t hv_why_words_at(const hv_facility *f, uint8_t request, uint8_t process, uint8_t target, uint8_t extra, uint8_t *out, size_t length);
+
+/* The facility of a set-up after calls of four bytes each; one to three left-over bytes are no call. Number and index are those of hv_read_setup: with a
+ * refused set-up the calls are made on a facility with all switches off. [replayNumbers, hvozdalka/Numbers] */
+hv_reading hv_replay(const uint8_t *setup, size_t setup_length, const uint8_t *calls, size_t calls_length);
+
+/* Whether object x holds the matter of object c after the calls, and number and index as hv_replay. An accepted signal carries: its receiver holds what it
+ * held and what the sender holds, with MAC on or off, whoever owns them, and what it writes later holds it too. [heldNumbers, hvozdalka/Numbers] */
+hv_held hv_holds(const uint8_t *setup, size_t setup_length, const uint8_t *calls, size_t calls_length, uint8_t x, uint8_t c);
+
+/* The same account of matter, kept along with the calls instead of being worked out from all of them: of a fresh facility, after each call with whether it
+ * was accepted (number 0), and whether object x holds the matter of c: after all calls what hv_holds answers. [startOf, stepOf, heldBy, matter/LedgerSteps;
+ * held-exactly, matter/Laws/AfterCalls] */
+hv_account hv_account_start(hv_facility f);
+hv_account hv_account_step(hv_account account, uint8_t request, uint8_t process, uint8_t target, uint8_t extra, bool accepted);
+bool hv_account_holds(hv_account account, uint8_t x, uint8_t c);
 
 /* The lines that the run program prints for a block of calls, the first of which has index `first`, stored at the front of `out`, and the
  * facility after them. What does not fit is cut off: HV_LINE_MOST for each call and HV_SHORT_MOST hold it all. Where `first` is 2^63 or
@@ -213,6 +281,25 @@ hv_printed hv_put_block(hv_facility f, uint64_t first, const uint8_t *calls, siz
 
 /* The same on a facility where it is, which becomes the facility after them; the padding stays. How many bytes the lines have. */
 size_t hv_put_block_at(hv_facility *f, uint64_t first, const uint8_t *calls, size_t calls_length, uint8_t *out, size_t out_length);
+
+/* A call and its line in words, as the program run_words prints it, with its newline, at the front of `out`, which has HV_WORDS_ROOM bytes: the facility
+ * after the call, and how many bytes the line has. [sentence, words/Sentences; after, rules/Calls] */
+hv_printed hv_put_words(hv_facility f, uint64_t index, uint8_t request, uint8_t process, uint8_t target, uint8_t extra, uint8_t *out);
+
+/* A refused set-up in words, with its newline, at the front of `out`, which has HV_WORDS_ROOM bytes: how many bytes. [setupSentence, words/Sentences] */
+size_t hv_put_setup_words(uint8_t number, uint16_t index, uint8_t *out);
+
+/* The words for a request, a kind, an answer, a flag, a role, a category for FC and a data type, and what a refusal number says, at the front of `out`,
+ * without a byte 0 behind them: how many bytes; what does not fit is cut off, and HV_WORD_MOST hold any. [requestWord, kindWord, answerWord, flagWord,
+ * roleWord, categoryWord, dataTypeWord, numberWord, names/Words] */
+size_t hv_request_words(uint8_t request, uint8_t *out, size_t length);
+size_t hv_kind_words(uint8_t kind, uint8_t *out, size_t length);
+size_t hv_answer_words(uint8_t answer, uint8_t *out, size_t length);
+size_t hv_flag_words(uint8_t flag, uint8_t *out, size_t length);
+size_t hv_number_words(uint8_t number, uint8_t *out, size_t length);
+size_t hv_role_words(uint8_t role, uint8_t *out, size_t length);
+size_t hv_category_words(uint8_t category, uint8_t *out, size_t length);
+size_t hv_data_type_words(uint8_t data_type, uint8_t *out, size_t length);
 
 /* A user, a process, an object; all fields are 0 for a number that is none. A process's `moves` is how often its current label moved by itself, at
  * most hv_most_moves of its owner after any calls from a fresh facility. [userOf, processOf, objectOf, state/State] */
@@ -241,6 +328,21 @@ uint32_t hv_refusals(hv_facility f, uint8_t user);
 
 /* Switches, and how many users there are and objects were entered. [summaryOf, hvozdalka/Numbers] */
 hv_summary_record hv_summary(hv_facility f);
+
+/* The same of a facility where it is, without a copy. [of facilityAt, in_place/Layout] */
+hv_user_record hv_user_at(const hv_facility *f, uint8_t user);
+hv_process_record hv_process_at(const hv_facility *f, uint8_t process);
+hv_object_record hv_object_at(const hv_facility *f, uint8_t object);
+uint32_t hv_most_moves_at(const hv_facility *f, uint8_t user);
+uint8_t hv_effective_flags_at(const hv_facility *f, uint8_t t);
+uint8_t hv_flag_source_at(const hv_facility *f, uint8_t t, uint8_t flag);
+uint8_t hv_open_marks_at(const hv_facility *f, uint8_t process, uint8_t object);
+uint32_t hv_refusals_at(const hv_facility *f, uint8_t user);
+hv_summary_record hv_summary_at(const hv_facility *f);
+
+/* What the library was built with: compare with HV_VERSION and HV_FACILITY_SIZE before anything else. */
+uint32_t hv_version(void);
+size_t hv_facility_size(void);
 
 #ifdef __cplusplus
 }

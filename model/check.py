@@ -7,6 +7,7 @@ import sys
 import tempfile
 
 import model
+import reasons
 import run
 import vectors
 import words
@@ -394,10 +395,11 @@ for _ in range(150):
     check(model.setup_bytes(model.read_setup(again)[2]), again, "written again")
 # in words
 check(words.tell(FF_ON + thing(1, 0, 0, 0, RO + ND) + thing(0, 255, 0, 0, ADD + NX, 1), bytes([21, 0, 0, 0, 20, 0, 1, 0]))[1],
-      "2 process 0 (user 0, clearance 9, current 0, marks 0 to 15 all, moved 0 times of at most 10): "
-      "write-open object 1 (file, level unset, read-only, no-execute, add-inherited): "
-      "MAC not cared, FC not cared, SIM not cared, FF not granted by read-only of object 0, combined not granted: 12 not granted; "
-      "then user 0, clearance 9, current 0, marks 0 to 15 all, moved 0 times of at most 10; refusals of user 0: 1", "FF in words")
+      "2 process 0 (user 0, general, untrusted, clearance 9, current 0, marks 0 to 15 all, automatic, moved 0 times of at most 10): "
+      "write-open object 1 (file, level unset, category general, data type none, read-only, no-execute, add-inherited): "
+      "MAC not cared, FC not cared, SIM not cared, FF not granted, combined not granted: 12 not granted (read-only of object 0); "
+      "then user 0, general, untrusted, clearance 9, current 0, marks 0 to 15 all, automatic, moved 0 times of at most 10; refusals of user 0: 1",
+      "FF in words")
 check(words.tell(KINDS + thing(0, 0, 0, 0, 0, 1), b""), ["set-up refused at record 6: 19 parent is no earlier directory"], "19 in words")
 
 # --- Matter ---------------------------------------------------------------
@@ -586,10 +588,12 @@ assert by_signals > 50, by_signals
 
 # in words
 TOLD = b"".join(map(bytes, [*READ_AND_SENT, (SEND_SIGNAL, 1, 0, 0), (SEND_SIGNAL, 0, 2, 0), (SEND_SIGNAL, 0, 200, 0), (SET_LEVEL, 1, 0, 3), SIGNAL]))
-SENDER = "user 0, clearance 15, current 2, marks 2 to 15 all, moved 1 times of at most 16"
-STILL = "moved 0 times of at most 16"
-SET_TO_2, RAISED = ("user 0, clearance 15, current 2, marks %d to 15 all, %s" % (mark, STILL) for mark in (0, 2))
-SET_TO_3 = "user 0, clearance 15, current 3, marks 2 to 15 all, " + STILL
+OWNER = "user 0, general, untrusted, clearance 15, "
+SENDER = OWNER + "current 2, marks 2 to 15 all, automatic, moved 1 times of at most 16"
+STILL = "not automatic, moved 0 times of at most 16"
+SET_TO_2, RAISED = ("%scurrent 2, marks %d to 15 all, %s" % (OWNER, mark, STILL) for mark in (0, 2))
+SET_TO_3 = OWNER + "current 3, marks 2 to 15 all, " + STILL
+BEGUN = OWNER + "current 0, marks 0 to 15 all, automatic, moved 0 times of at most 16"
 SENT = "MAC granted, FC not cared, SIM not cared, FF not cared, combined granted: 0 accepted"
 ASIDE = "MAC not cared, FC not cared, SIM not cared, FF not cared, combined not cared: "
 check(words.tell(SIGNALS, TOLD)[5:9] + words.tell(SIGNALS, TOLD)[10:],
@@ -600,14 +604,17 @@ check(words.tell(SIGNALS, TOLD)[5:9] + words.tell(SIGNALS, TOLD)[10:],
        "9 process 0 (%s): send-signal process 200 (not running): %s2 no such process number; then %s; process 200 then not running" % (
            SENDER, ASIDE, SENDER),
        "11 process 0 (%s): send-signal process 1 (%s): "
-       "MAC not granted, FC not cared, SIM not cared, FF not cared, combined not granted: 12 not granted; then %s; "
+       "MAC not granted, FC not cared, SIM not cared, FF not cared, combined not granted: 12 not granted (current labels differ); then %s; "
        "process 1 then %s; refusals of user 0: 1" % (SENDER, SET_TO_3, SENDER, SET_TO_3)], "signals in words")
 check(words.tell(SIGNALS, TOLD[:20] + bytes([SEND_SIGNAL, 1, 1, 0]))[5],
       "6 process 1 (%s): send-signal process 1 (%s): %s; then %s; process 1 then %s" % (SET_TO_2, SET_TO_2, SENT, RAISED, RAISED),
       "a signal to itself in words")
-check(words.tell(SIGNALS, bytes([LOGIN, 0, 0, 0, CLONE, 0, 5, 0]))[1],
-      "2 process 0 (user 0, clearance 15, current 0, marks 0 to 15 all, %s): clone process 5: %s; "
-      "then user 0, clearance 15, current 0, marks 0 to 15 all, %s" % (STILL, SENT, STILL), "clone in words")
+check(words.tell(SIGNALS, bytes([LOGIN, 0, 0, 0, CLONE, 0, 5, 0, CLONE, 0, 5, 0, CLONE, 0, 77, 0]))[1:],
+      ["2 process 0 (%s): clone to process 5, the clone of process 0: %s; then %s; process 5 then %s" % (BEGUN, SENT, BEGUN, BEGUN),
+       "3 process 0 (%s): clone to process 5, the clone of process 0: %s4 process number is not free; then %s; process 5 then %s" % (
+           BEGUN, ASIDE, BEGUN, BEGUN),
+       "4 process 0 (%s): clone to process 77, the clone of process 0: %s2 no such process number; then %s; process 77 then not running" % (
+           BEGUN, ASIDE, BEGUN)], "clone in words")
 
 # --- Ticket 5: how often a level moves --------------------------------------
 
@@ -754,11 +761,12 @@ assert at_bound > 20 and clones_at_bound > 5, (at_bound, clones_at_bound)
 # in words
 SAID = [IN, (STATUS, 0, CONTROLS + 1, 0), (STATUS, 0, CONTROLS + 1, 0), (SET_LEVEL, 0, 0, 2)]
 TOLD = words.tell(MOVING, b"".join(map(bytes, SAID)))
-MARKS = ("user 0, clearance 3, current 0, marks 0 to 15 all, moved 0 times of at most 4",
-         "user 0, clearance 3, current 1, marks 1 to 15 all, moved 1 times of at most 4",
-         "user 0, clearance 3, current 2, marks 1 to 15 all, moved 1 times of at most 4")
+MARKS = ("user 0, general, untrusted, clearance 3, current 0, marks 0 to 15 all, automatic, moved 0 times of at most 4",
+         "user 0, general, untrusted, clearance 3, current 1, marks 1 to 15 all, automatic, moved 1 times of at most 4",
+         "user 0, general, untrusted, clearance 3, current 2, marks 1 to 15 all, not automatic, moved 1 times of at most 4")
 check(TOLD, ["1 process 0 (not running): login user 0: %s; then %s" % (SENT, MARKS[0])]
-      + ["%d process 0 (%s): get-status-data object 13 (control data, level 1): %s; then %s" % (n, MARKS[n - 2], SENT, MARKS[1]) for n in (2, 3)]
+      + ["%d process 0 (%s): get-status-data object 13 (control data, level 1, category general, data type none): %s; then %s" % (
+          n, MARKS[n - 2], SENT, MARKS[1]) for n in (2, 3)]
       + ["4 process 0 (%s): set-level level 2: %s; then %s" % (MARKS[1], SENT, MARKS[2])], "moves in words")
 
 # --- Ticket 6: project categories -------------------------------------------
@@ -994,16 +1002,238 @@ for level, held in ((0, 1), (0, 3), (1, 1), (1, 3), (2, 2), (2, 3)):
 
 # in words
 TOLD = words.tell(YARD, b"".join(map(bytes, [*READ_BOTH, (SET_LEVEL, 0, 131, 2), (SET_LEVEL, 0, 255, 16), (SET_LEVEL, 0, 3, 2)])))
-MARKS = ("user 0, clearance 3 ab, current 0, marks 0 to 15 all, moved 0 times of at most 6",
-         "user 0, clearance 3 ab, current 1 a, marks 1 a to 15 all, moved 1 times of at most 6",
-         "user 0, clearance 3 ab, current 1 ab, marks 1 ab to 15 all, moved 2 times of at most 6",
-         "user 0, clearance 3 ab, current 2 ab, marks 1 ab to 15 all, moved 2 times of at most 6")
-REFUSED = "MAC not granted, FC not cared, SIM not cared, FF not cared, combined not granted: 12 not granted"
+OWNER = "user 0, general, untrusted, clearance 3 ab, "
+MARKS = (OWNER + "current 0, marks 0 to 15 all, automatic, moved 0 times of at most 6",
+         OWNER + "current 1 a, marks 1 a to 15 all, automatic, moved 1 times of at most 6",
+         OWNER + "current 1 ab, marks 1 ab to 15 all, automatic, moved 2 times of at most 6",
+         OWNER + "current 2 ab, marks 1 ab to 15 all, not automatic, moved 2 times of at most 6")
+REFUSED = "MAC not granted, FC not cared, SIM not cared, FF not cared, combined not granted: 12 not granted (label not under the clearance)"
+PLAIN = "category general, data type none"
 check(TOLD, ["1 process 0 (not running): login user 0: %s; then %s" % (SENT, MARKS[0]),
-             "2 process 0 (%s): read-open object 5 (file, level 1 a): %s; then %s" % (MARKS[0], SENT, MARKS[1]),
-             "3 process 0 (%s): read-open object 6 (file, level 1 b): %s; then %s" % (MARKS[1], SENT, MARKS[2]),
+             "2 process 0 (%s): read-open object 5 (file, level 1 a, %s): %s; then %s" % (MARKS[0], PLAIN, SENT, MARKS[1]),
+             "3 process 0 (%s): read-open object 6 (file, level 1 b, %s): %s; then %s" % (MARKS[1], PLAIN, SENT, MARKS[2]),
              "4 process 0 (%s): set-level level 2 abh: %s; then %s; refusals of user 0: 1" % (MARKS[2], REFUSED, MARKS[2]),
              "5 process 0 (%s): set-level level 16 all: %s11 no such level; then %s" % (MARKS[2], ASIDE, MARKS[2]),
              "6 process 0 (%s): set-level level 2 ab: %s; then %s" % (MARKS[2], SENT, MARKS[3])], "labels in words")
+
+# --- Reasons: which conditions failed ----------------------------------------
+
+MODIFY, GET_STATUS = 10, 9
+
+
+def names_of(failed):
+    """The names of what failed, in the order in which they are told; of a flag its number."""
+    return [name for name in failed._fields[:-1] if getattr(failed, name)] + [failed.flag] * bool(failed.flag)
+
+
+def agrees_with_answers(failed, outcome):
+    """Of each module: it does not grant, or is undefined, exactly with a reason of its own; no other number has any."""
+    told = (failed.unset, any(getattr(failed, name) for name in reasons.OF_MAC), failed.nocategory, failed.category, failed.datatype, failed.flag != 0)
+    check(told, (outcome.mac == 3, outcome.mac == 2, outcome.fc == 3, outcome.fc == 2, outcome.sim == 2, outcome.ff == 2), "reasons and answers")
+    check(failed != reasons.NONE, outcome.number in (12, 13), "a reason exactly where a call is denied")
+
+
+def why(facility, call):
+    """What is told of a call that enforce makes: before it, and where it is refused also after it."""
+    before, text = reasons.failed(facility, call), words.why_words(facility, call)
+    outcome = model.enforce(facility, call)
+    if outcome.number != 0:
+        check((reasons.failed(facility, call), words.why_words(facility, call)), (before, text), "the same after a refused call")
+    agrees_with_answers(before, outcome)
+    return names_of(before)
+
+
+def told(setup, calls, *lasts):
+    """Of each last call, made after the others, why it is refused."""
+    return [why(after(setup, *calls), last) for last in lasts]
+
+
+def at(level, held=0, kind=0):
+    """The number of an object of YARD."""
+    return number_of(kind, Label(level, held))
+
+
+# Users of YARD: 0 of clearance 3 ab, 1 the same and trusted, 2 of 3 a, 3 of 3. Both sides of each condition, by each class.
+R_CALLS, W_CALLS = ((0, READ_OPEN), (0, EXECUTE), (1, READ), (1, 15), (3, GET_STATUS)), ((0, WRITE_OPEN), (0, DELETE), (1, WRITE), (2, 0), (3, MODIFY))
+B_CALLS = ((0, READ_WRITE_OPEN), (2, READ_WRITE_OPEN))
+FIXED_AT_1 = [IN, (SET_LEVEL, 0, 0, 1)]
+for kind, request in R_CALLS:
+    def reading(calls, *those):
+        return told(YARD, calls, *(call_on(request, label, kind) for label in those))
+    check(reading([(LOGIN, 0, 0, 2)], Label(3, IN_A), Label(3), Label(3, IN_B), Label(0, IN_B)), [[], [], ["clearance"], ["clearance"]], "R, clearance")
+    check(reading([(LOGIN, 0, 0, 2), call_on(READ_OPEN, A1)], Label(2), B1), [[], ["clearance"]], "R, clearance, of the least label above both")
+    check(reading(WROTE_A, A1, Label(3), Label(2, IN_B), Label(0, IN_B)), [[], ["writemark"], ["writemark"], ["writemark"]], "R, write mark")
+    check(reading(FIXED_AT_1, Label(1), Label(0), Label(2), Label(0, IN_A)), [[], [], ["fixed"], ["fixed"]], "R, automatic")
+    check(reading([(LOGIN, 0, 0, 3), call_on(WRITE_OPEN, Label(1)), (SET_LEVEL, 0, 0, 1)], Label(1), Label(2), Label(1, IN_A), Label(3, 3)),
+          [[], ["fixed", "writemark"]] + [["fixed", "clearance", "writemark"]] * 2, "R, several")
+    check(reading([(LOGIN, 0, 0, 1), (SET_LEVEL, 0, 0, 1)], Label(3, 3), Label(0, IN_B)), [[], []], "R, trusted")
+for kind, request in W_CALLS + B_CALLS:
+    def writing(calls, *those):
+        return told(YARD, calls, *(call_on(request, label, kind) for label in those))
+    check(writing([(LOGIN, 0, 0, 2)], Label(3, IN_A), Label(3, IN_B), Label(0, IN_B)), [[], ["clearance"], ["clearance"]], "W, clearance")
+    check(writing(READ_A, A1, Label(3, 3), Label(1), B1, Label(0, IN_A)), [[], [], ["readmark"], ["readmark"], ["readmark"]], "W, read mark")
+    check(writing(WROTE_A, A1, Label(0), Label(3, IN_A), Label(2, 3), Label(0, IN_B)), [[], [], ["writemark"], ["writemark"], ["writemark"]], "W, write mark")
+    check(writing(FIXED_AT_1, Label(1), Label(0), Label(2), Label(1, IN_A)), [[], ["fixed"], ["fixed"], ["fixed"]], "W, automatic")
+    check(writing([(LOGIN, 0, 0, 2), call_on(READ_WRITE_OPEN, A1), (SET_LEVEL, 0, IN_A, 1)], A1, Label(1), Label(2, IN_A), B1, Label(3, 3)),
+          [[], ["fixed", "readmark"], ["fixed", "writemark"], ["fixed", "clearance", "writemark", "readmark"], ["fixed", "clearance", "writemark"]],
+          "W, several")
+    check(writing([(LOGIN, 0, 0, 1), (SET_LEVEL, 0, 0, 1)], Label(3, 3), Label(0, IN_B)), [[], []], "W, trusted")
+check(told(YARD, READ_A, (CREATE, 0, at(1, 1, 1), 0), (CREATE, 0, at(1, 0, 1), 0), (CREATE, 0, at(1, 2, 1), 1), (CREATE, 0, 0, 2), (CREATE, 0, 0, 3)),
+      [[], ["readmark"], ["readmark"], [], []], "create")
+# set-level, of a trusted owner too: never for automatic
+for owner in (0, 1):
+    check(told(YARD, [(LOGIN, 0, 0, owner), (SET_LEVEL, 0, IN_A, 1)], (SET_LEVEL, 0, 3, 3), (SET_LEVEL, 0, 3, 4), (SET_LEVEL, 0, 7, 3)),
+          [[], ["clearance"], ["clearance"]], "set-level, clearance")
+check(told(YARD, READ_A, (SET_LEVEL, 0, IN_A, 1), (SET_LEVEL, 0, IN_A, 0), (SET_LEVEL, 0, IN_B, 1), (SET_LEVEL, 0, IN_B, 4)),
+      [[], ["readmark"], ["readmark"], ["clearance", "readmark"]], "set-level, read mark")
+check(told(YARD, [*WROTE_A, call_on(READ_OPEN, A1)], (SET_LEVEL, 0, IN_A, 2), (SET_LEVEL, 0, IN_A, 3), (SET_LEVEL, 0, 3, 2), (SET_LEVEL, 0, 4, 0)),
+      [[], ["writemark"], ["writemark"], ["clearance", "writemark", "readmark"]], "set-level, write mark")
+# signals, by the sender's owner
+for sender in (0, 1):
+    pair = [(LOGIN, 0, 0, sender), (LOGIN, 1, 0, 1 - sender)]
+    check(told(YARD, pair, SIGNAL) + told(YARD, [*pair, (SET_LEVEL, 1, IN_A, 0)], SIGNAL) + told(YARD, [*pair, (SET_LEVEL, 1, 0, 1)], SIGNAL),
+          [[], ["receiver"], ["receiver"]] if sender == 0 else [[], [], []], "signals")
+# unset, whoever calls, and no other reason of MAC beside it; numbers 1 to 11 have none
+HOLES = switches(1, 0, 0) + user(0) + user(0, 0, 1) + thing(1, 255) + thing(0, 255) + thing(0, 0) + thing(0, 1)
+for owner in (0, 1):
+    check(told(HOLES, [(LOGIN, 0, 0, owner), (SET_LEVEL, 0, 0, 0)], (READ_OPEN, 0, 1, 0), (CREATE, 0, 0, 0), (READ_OPEN, 0, 2, 0), (CREATE, 0, 0, 2)),
+          [["unset"], ["unset"], [], []], "level unset")
+check(told(HOLES, [IN], (READ_OPEN, 0, 9, 0), (SET_LEVEL, 0, 255, 16), (READ, 0, 1, 0), (READ_OPEN, 7, 3, 0), (22, 0, 3, 0), (LOGIN, 0, 0, 0)), [[]] * 6,
+      "other numbers")
+check(told(switches(0, 0, 0) + HOLES[8:], [IN], (READ_OPEN, 0, 1, 0), (WRITE_OPEN, 0, 3, 0), (SET_LEVEL, 0, 1, 9)), [[]] * 3, "MAC off")
+# FC and SIM by role, category, data type and request; off they have none
+for role in range(3):
+    for category in (0, 1, 2, 255):
+        wanted = ["nocategory"] if category == 255 else ["category"] if category not in (0, role) else []
+        for on in (0, 1):
+            office = switches(0, on, 0) + user(0, role, 1) + thing(0, 255, category) + thing(1, 255, category)
+            check(told(office, [IN], (READ_OPEN, 0, 0, 0), (WRITE_OPEN, 0, 0, 0), (CREATE, 0, 1, 1), (CREATE, 0, 1, 3)), [wanted * on] * 3 + [[]], "FC")
+    for data_type in (0, 1):
+        for on in (0, 1):
+            office = switches(0, 0, on) + user(0, role, 1) + b"".join(thing(kind, 255, 0, data_type) for kind in range(4))
+            wanted = ["datatype"] * (on and data_type and role != 1)
+            judged_calls = [(request, 0, kind, 0) for kind, request in (*W_CALLS, *B_CALLS, (1, CREATE))]
+            check(told(office, [IN], *judged_calls), [wanted] * len(judged_calls), "SIM")
+            free = [(request, 0, kind, 0) for kind, request in R_CALLS] + [(CREATE, 0, 1, 2), (SET_LEVEL, 0, 0, 0)]
+            check(told(office, [IN], *free), [[]] * len(free), "SIM of a read")
+check(told(switches(0, 0, 1) + user(0) + thing(0, 0, 0, 1), [IN], (READ_OPEN, 0, 0, 0)), [[]], "SIM of a read-open")
+opened = after(switches(0, 0, 1) + user(0) + thing(0, 0, 0, 1), IN, (READ_OPEN, 0, 0, 0))
+opened.processes[0].open_writing.add(0)
+check([why(opened, (request, 0, 0, 0)) for request in (READ, WRITE, CLOSE)], [[], ["datatype"], []], "SIM of a write to an open file")
+# FF: the first flag that forbids, and whose it is
+for flags in range(16):
+    for request, kind, asked in ((DELETE, 0, (RO, ND)), (EXECUTE, 0, (NX,)), (DELETE, 1, (RO, ND, SO)), (CREATE, 1, (RO, SO)), (READ, 1, (SO,)), (15, 1, ())):
+        first = [flag for flag in asked if flags & flag][:1]
+        check(told(FF_ON + thing(kind, 0, 0, 0, flags), [IN], (request, 0, 0, 0)), [first], "FF, flags %d" % flags)
+        check(told(switches(0, 0, 0) + FF_ON[8:] + thing(kind, 0, 0, 0, flags), [IN], (request, 0, 0, 0)), [[]], "FF off")
+below = after(FF_ON + thing(1, 0, 0, 0, RO + SO) + thing(1, 0, 0, 0, ADD + NX, 1) + thing(0, 0, 0, 0, ADD + ND, 2), IN)
+for call, text in (((DELETE, 0, 2, 0), " (read-only of object 0)"), ((EXECUTE, 0, 2, 0), " (no-execute of object 1)"), ((READ_OPEN, 0, 2, 0), ""),
+                   ((READ, 0, 1, 0), " (search-only of object 0)"), ((15, 0, 1, 0), "")):
+    check(words.why_words(below, call), text, "whose flag it is")
+check(words.why_words(after(FF_ON + thing(0, 0, 0, 0, ND), IN), (DELETE, 0, 0, 0)), " (no-delete of object 0)", "no-delete is not inherited")
+# all modules at once, with 12 and with 13, and in words
+ALL_ON = switches(1, 1, 1, 1) + user(1) + thing(0, 0, 1, 1, RO) + thing(0, 255, 255, 1, ND) + thing(0, 3, 255, 1, ADD)
+BETWEEN = [IN, (SET_LEVEL, 0, 0, 1), (SEND_SIGNAL, 0, 0, 0)]
+check(told(ALL_ON, BETWEEN, (DELETE, 0, 0, 0), (DELETE, 0, 1, 0), (DELETE, 0, 2, 0)),
+      [["fixed", "readmark", "category", "datatype", RO], ["unset", "nocategory", "datatype", ND], ["fixed", "clearance", "nocategory", "datatype"]],
+      "all modules")
+WITHIN = "user 0, general, untrusted, clearance 1, current 1, marks 1 to 15 all, not automatic, moved 0 times of at most 2"
+check(words.tell(ALL_ON, b"".join(map(bytes, [*BETWEEN, (DELETE, 0, 0, 0), (DELETE, 0, 1, 0)])))[3:],
+      ["4 process 0 (%s): delete object 0 (file, level 0, category security, data type security information, read-only): MAC not granted, "
+       "FC not granted, SIM not granted, FF not granted, combined not granted: 12 not granted (automatic off) (label not over the read mark) "
+       "(category not of the role) (security information, not security officer) (read-only of object 0); then %s; refusals of user 0: 1" % (
+           WITHIN, WITHIN),
+       "5 process 0 (%s): delete object 1 (file, level unset, category unset, data type security information, no-delete): MAC undefined, "
+       "FC undefined, SIM not granted, FF not granted, combined undefined: 13 undefined (level unset) (category unset) "
+       "(security information, not security officer) (no-delete of object 1); then %s; refusals of user 0: 2" % (WITHIN, WITHIN)], "all modules in words")
+OFFICERS = switches(0, 0, 0) + user(2, 1, 1) + user(2, 2) + thing(1, 0, 2)
+check(words.tell(OFFICERS, bytes([21, 0, 0, 0, 21, 1, 0, 1, 4, 0, 0, 0, 4, 0, 7, 2, 4, 0, 7, 0]))[1:],
+      ["2 process 1 (not running): login user 1: %s0 accepted; then user 1, system administrator, untrusted, clearance 2, current 0, marks 0 to 15 all, "
+       "automatic, moved 0 times of at most 3" % ASIDE]
+      + ["%d process 0 (user 0, security officer, trusted, clearance 2, current 0, marks 0 to 15 all, automatic, moved 0 times of at most 3): create %s: "
+         "%s%s; then user 0, security officer, trusted, clearance 2, current 0, marks 0 to 15 all, automatic, moved 0 times of at most 3" % (
+             n, what, ASIDE, number) for n, what, number in (
+                 (3, "file in object 0 (directory, level 0, category system, data type none)", "0 accepted, object 1"),
+                 (4, "channel", "0 accepted, object 2"), (5, "file in object 7 (not live)", "6 object is not live"))], "roles, and what is made, in words")
+check([words.role_words(n) for n in (0, 1, 2, 3, 255)], ["general", "security officer", "system administrator", "no role", "no role"], "role words")
+check([words.category_words(n) for n in (0, 1, 2, 3, 254, 255)], ["general", "security", "system", "no category", "no category", "unset"], "category words")
+check([words.data_type_words(n) for n in (0, 1, 2, 255)], ["none", "security information", "no data type", "no data type"], "data type words")
+
+
+def ways_out(facility, call):
+    """For each reason how its obstacle is taken out of the way: what has which field, and what is put there."""
+    request, p, t, e = call
+    process = facility.processes[p]
+    owner = facility.users[process.owner]
+    thing = facility.objects[t] if model.needs_object(request, e) else None
+    label = Label(e, t) if request == SET_LEVEL else thing.label if thing else process.current
+    if thing and model.CLASSES[thing.kind][request] == "R":
+        label = process.current.least_above(label)
+    ways = {"fixed": [(process, "automatic", True)], "clearance": [(owner, "clearance", owner.clearance.least_above(label))],
+            "writemark": [(process, "write_mark", process.write_mark.least_above(label))],
+            "readmark": [(process, "read_mark", process.read_mark.greatest_below(label))]}
+    if request == SEND_SIGNAL:
+        ways["receiver"] = [(facility.processes[t], "current", process.current)]
+    if thing:
+        ways.update(unset=[(thing, "label", process.current)], nocategory=[(thing, "category", 0)], category=[(thing, "category", 0)],
+                    datatype=[(thing, "data_type", 0)], flag=[(above, "flags", above.flags & ADD) for above in with_parents(facility, thing)])
+    return ways
+
+
+def with_parents(facility, thing):
+    while thing is not None:
+        yield thing
+        thing = None if thing.parent is None else facility.objects[thing.parent]
+
+
+def denied_without(facility, call, ways):
+    """Whether the call is refused with 12 or 13 once these obstacles are out of the way; then they are put back."""
+    changes = [change for way in ways for change in way]
+    kept = [(thing, name, getattr(thing, name)) for thing, name, _ in changes]
+    for thing, name, value in changes:
+        setattr(thing, name, value)
+    number = model.query(facility, call).number
+    for thing, name, value in kept:
+        setattr(thing, name, value)
+    return number in (12, 13)
+
+
+def true_reasons(facility, call, failed):
+    """A denied call is accepted without what is told, and still denied with any one of it left."""
+    names, ways = [name for name, value in zip(failed._fields, failed) if value], ways_out(facility, call)
+    check(denied_without(facility, call, [ways[name] for name in names]), False, "without the reasons")
+    for left in names:
+        check(denied_without(facility, call, [ways[name] for name in names if name != left]), True, "with one reason left: " + left)
+    return names
+
+
+# random lists: a reason exactly where a call is denied, and each is true
+seen_alone, seen_with = set(), set()
+for case in range(250):
+    setup, calls = (vectors.some_case, vectors.signal_case, vectors.move_case, vectors.label_case, vectors.tree_case)[case % 5](rng, *[case] * (case % 5 > 0))
+    number, _, facility = model.read_setup(setup)
+    for i in range(0, len(calls) - 3 if number == 0 else 0, 4):
+        call = tuple(calls[i:i + 4])
+        failed = reasons.failed(facility, call)
+        names = true_reasons(facility, call, failed) if failed != reasons.NONE else []
+        seen_alone.update(names if len(names) == 1 else [])
+        seen_with.update(names if len(names) > 1 else [])
+        agrees_with_answers(failed, model.enforce(facility, call))
+assert seen_alone == seen_with | {"receiver"} == set(reasons.Failed._fields), (seen_alone, seen_with)
+# any labels of a process, also those that no list of calls gives, and every set of MAC's reasons that there is
+found = {}
+for case in range(8000):
+    few = rng.choice(((0, 1, 2, 3), SETS))
+    current, read, write, clearance, label = (Label(rng.randrange(3), rng.choice(few)) for _ in range(5))
+    letter = ("R", "W", "B", "set-level")[case % 4]
+    facility = after(switches(1, 0, 0) + user(clearance.level, 0, 0, clearance.set) + thing(0, label.level, 0, 0, 0, 0, label.set), IN)
+    process = facility.processes[0]
+    process.current, process.read_mark, process.write_mark, process.automatic = current, read, rng.choice((WHOLE, write, write)), rng.random() < 0.5
+    call = (SET_LEVEL, 0, label.set, label.level) if letter == "set-level" else ({"R": READ_OPEN, "W": WRITE_OPEN, "B": READ_WRITE_OPEN}[letter], 0, 0, 0)
+    failed = reasons.failed(facility, call)
+    agrees_with_answers(failed, model.query(facility, call))
+    if failed != reasons.NONE:
+        found.setdefault(letter, set()).add(tuple(true_reasons(facility, call, failed)))
+check({letter: len(sets) for letter, sets in found.items()}, {"R": 7, "W": 15, "B": 15, "set-level": 7}, "each set of reasons that is not empty")
 
 print("model: %d checks passed" % passed)

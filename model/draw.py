@@ -1,24 +1,47 @@
-"""Draws a run as an SVG: python3 -B model/draw.py SETUP_FILE [FIRST] < CALLS > PICTURE.svg
+"""Draws a run as an SVG: python3 -B model/draw.py SETUP_FILE [FIRST [LAST]] < CALLS > PICTURE.svg
 
-One lane for each process that runs: its current level as a line, with the band from read mark to write mark, over the calls. Where the set of
-the current label is not empty its letters stand above the line, and those of the read mark below the band. A call is marked in the lane of the
-process that made it: a dot where it was accepted, a cross with its number where it was refused. A move, a change of the current label by R, W
-or B, is marked on the level's line, with the number of moves that the process then has made. From an accepted signal a dashed line goes to the
-receiver, whose read mark it may have raised. All calls are made, and those from FIRST on are drawn, with the processes that make them, receive
-their signals, or are changed by them.
+Across are the calls, by their numbers; one lane for each process has the levels upward. In a lane are the process's current level as a line, the
+band from its read mark to its write mark, and the clearance of the user who owns it. Two or more levels one above the other that nothing in the
+picture is at share one row of the axis, which says which they are. Where the set of the current label becomes another one its letters stand above
+the line, and those of the read mark below the band.
+
+A call is marked in the lane of the process that made it: a dot where it was accepted, a cross with its number where it was refused. Under the
+lane are the request, the object and its label (or the process, the user, the label asked for). A move, a change of the current label by R, W or B,
+is marked on the level's line, and under the lane is how many moves the process then has made. From an accepted signal a dashed line goes to the
+receiver, whose read mark it may have raised; from an accepted clone a line goes from the parent to where the clone's line begins. Where the
+picture is shown by a browser, each mark tells its call in words, with the reasons of a refusal.
+
+All calls up to LAST are made, and those from FIRST on are drawn, with the processes that make them, receive their signals, or are changed by them.
+Calls of process numbers above 31, which are all refused, are in a lane of their own; it, and that of a process that does not run, has no levels.
 """
 
 import sys
+import textwrap
 from xml.sax.saxutils import escape
 
 import model
 import run
 import words
 
-STEP, LANE, GAP, LEFT, TOP = 46, 112, 34, 176, 48
-RIGHT, BOTTOM = 24, 46
-LEGEND = 1000                 # the width that it needs
-LETTERS = 340                 # and what its part on letters adds
+LEFT, BEGIN, RIGHT = 200, 14, 16        # the level axis; from it to the first call; what is kept free at the right
+ABOVE, BELOW, GAP = 26, 18, 16          # of a lane: above its levels, between them and its text, and behind it
+ROW = 20                                # the height of a row of levels
+SIZE, LINE, LETTER = 9, 11, 0.6         # of text: its size under a lane, the height of a line, and a letter's width by the size
+WIDEST = 12                             # letters of a line of text under a lane
+HALO = ' stroke="white" stroke-width="3" stroke-linejoin="round" paint-order="stroke"'     # of text that may stand on lines
+NONE = model.PROCESSES                  # the lane of the numbers that are no process's
+DARK, GREY, BLUE, PALE, RED, ORANGE, GREEN = "#333333", "#777777", "#15467a", "#cfe0f3", "#b3261e", "#e07b00", "#8cc48c"
+MOVED, UNDER = "#b35f00", "#4a75a5"     # text of a move, and of a read mark
+
+LEGEND = (("h22", 'stroke="%s" stroke-width="12"' % PALE, "process: from read mark to write mark"),
+          ("h22", 'stroke="%s" stroke-width="3"' % BLUE, "process: current level"),
+          ("h22", 'stroke="%s" stroke-width="7"' % GREEN, "user who owns it: clearance"),
+          ("m11 0h0.1", 'stroke="%s" stroke-width="10" stroke-linecap="round"' % BLUE, "call accepted"),
+          ("m6 -5l10 10m0 -10l-10 10", 'stroke="%s" stroke-width="3"' % RED, "call refused, with its number"),
+          ("m11 -7v14", 'stroke="%s" stroke-width="7"' % ORANGE, "move"),
+          ("m11 -8v16", 'stroke="%s" stroke-dasharray="4 3"' % BLUE, "signal, to its receiver"),
+          ("m11 -8v16", 'stroke="%s" stroke-width="2"' % GREY, "clone, from its parent"))
+LETTERED = (("ab", BLUE, "above the line: categories of the current label"), ("ab", UNDER, "below the band: categories of the read mark"))
 
 
 def states(facility):
@@ -27,92 +50,200 @@ def states(facility):
 
 
 def record(setup, calls):
-    """The state before the first call and after each, and each call with its number."""
+    """The state before the first call and after each, each call with its number and its texts, and the users."""
     number, index, facility = model.read_setup(setup)
     if number != 0:
         sys.exit("set-up refused at record %d: %d %s" % (index, number, words.NUMBERS[number]))
     seen, made = [states(facility)], []
     for i in range(0, len(calls) - 3, 4):
         call = tuple(calls[i:i + 4])
-        target = words.target_words(facility, call[0], call[2], call[3])
+        lines = under(facility, call)
+        told = words.word(words.REQUESTS, call[0], "no request") + words.target_words(facility, call)
+        why = words.why_words(facility, call)
         outcome = model.enforce(facility, call)
-        made.append((call, outcome.number, words.word(words.REQUESTS, call[0], "no request") + target))
+        told = "%s: %d %s%s" % (told, outcome.number, words.NUMBERS[outcome.number], why)
+        if outcome.object_number != model.NO_OBJECT:
+            lines += ["as object %d" % outcome.object_number, level_words(facility, outcome.object_number)]
+        made.append((call, outcome.number, [part for line in lines for part in textwrap.wrap(line, WIDEST, break_long_words=False)], told))
         seen.append(states(facility))
-    clearances = [user.clearance for user in facility.users]
-    return seen, made, clearances
+    return seen, made, facility.users
+
+
+def under(facility, call):
+    """What stands under a call: the request, and what it is about."""
+    request, p, t, e = call
+    first = ["process %d" % p] if p >= model.PROCESSES else []
+    first.append(words.word(words.REQUESTS, request, "request %d" % request))
+    if request > model.LOGIN or request == model.TERMINATE:
+        return first
+    if request == model.LOGIN:
+        return first + ["user %d" % e]
+    if request in (model.CLONE, model.SEND_SIGNAL):
+        return first + ["process %d" % t]
+    if request == model.SET_LEVEL:
+        return first + ["level " + words.label_words(model.Label(e, t))]
+    if request == model.CREATE:
+        first.append(words.word(words.KINDS, e, "kind %d" % e) + (" in" if model.needs_object(request, e) else ""))
+    return first + (["object %d" % t, level_words(facility, t)] if model.needs_object(request, e) else [])
+
+
+def level_words(facility, t):
+    thing = facility.objects[t] if t < len(facility.objects) else None
+    if thing is None or not thing.live:
+        return "not live"
+    return "level unset" if thing.label.level == model.UNSET else "level " + words.label_words(thing.label)
+
+
+def letters(label):
+    """Of the label's categories."""
+    return words.label_words(label).partition(" ")[2]
 
 
 class Picture:
-    def __init__(self, seen, made, clearances, first=1):
-        self.seen, self.made, self.clearances, self.first = seen[first - 1:], made[first - 1:], clearances, first
-        begun, callers = self.seen[0], {call[1] for call, _, _ in self.made if call[1] < model.PROCESSES}
-        receivers = {call[2] for call, number, _ in self.made if call[0] == model.SEND_SIGNAL and number == 0}
+    def __init__(self, seen, made, users, first=1):
+        self.seen, self.made, self.users, self.first = seen[first - 1:], made[first - 1:], users, first
+        begun, callers = self.seen[0], {min(call[1], NONE) for call, _, _, _ in self.made}
+        receivers = {call[2] for call, number, _, _ in self.made if call[0] == model.SEND_SIGNAL and number == 0}
         changed = {p for state in self.seen for p in {*state, *begun} if state.get(p) != begun.get(p)}
         self.lanes = sorted(callers | receivers | changed)
+        self.before = any(p in begun for p in self.lanes)        # whether there is a state to draw before the first call
         shown = [state[p] for state in self.seen for p in self.lanes if p in state]
-        levels = [label.level for _, current, read, write, _ in shown for label in (current, read, write) if label is not write or write.level < 15]
-        self.top = max(levels + [clearance.level for clearance in clearances] + [1]) + 1
-        self.lettered = any(label.set for state in shown for label in state[1:3])
+        self.levels(shown)
+        self.texts = self.strips()
+        longest = max([len(text) for lines in self.texts.values() for text, _ in lines] + [7])
+        self.lettered = max([len(letters(label)) for state in shown for label in state[1:3]] + [0])
+        self.step = max(longest * LETTER * SIZE + 7, self.lettered * LETTER * 11 + 12)     # so that neither reaches the next call's
         self.parts = []
+        self.place()
+
+    def levels(self, shown):
+        """The rows of the level axis: each level that something is at, and each run of others; a run of one is a level."""
+        drawn = {label.level for _, *labels, _ in shown for label in labels} | {self.users[state[0]].clearance.level for state in shown} | {0, 15}
+        self.rows, self.row = [], []
+        for level in range(16):
+            begin = level if level in drawn else max(n for n in drawn if n < level) + 1
+            end = level if level in drawn else min(n for n in drawn if n > level) - 1
+            if level == begin:
+                self.rows.append("%d" % level if begin == end else "%d to %d" % (begin, end))
+            self.row.append(len(self.rows) - 1)
+
+    def strips(self):
+        """The lines of text under a lane, each with its colour, by lane and place."""
+        strips = {}
+        for k, (call, number, lines, _) in enumerate(self.made):
+            p = min(call[1], NONE)
+            strips[p, k] = [(line, DARK) for line in lines]
+            if self.moved(k, p):
+                strips[p, k].append(("move %d" % self.seen[k + 1][p][4], MOVED))
+            if number == 0 and call[0] in (model.CLONE, model.SEND_SIGNAL) and call[2] != p:
+                strips[call[2], k] = [("clone of" if call[0] == model.CLONE else "signal from", GREY), ("process %d" % p, GREY)]
+        return strips
+
+    def moved(self, k, p):
+        """Whether call k is a move of p: a change of its label by a call of p that is no set-level, while it runs."""
+        before, after = self.seen[k].get(p), self.seen[k + 1].get(p)
+        return self.made[k][0][1] == p and self.made[k][0][0] != model.SET_LEVEL and bool(before and after) and before[1] != after[1]
+
+    def owners(self, p):
+        return list(dict.fromkeys(state[p][0] for state in self.seen if p in state))
+
+    def runs(self, p):
+        """Whether p runs at some place in the picture; else its lane has no levels."""
+        return any(p in state for state in self.seen)
+
+    def height(self, p):
+        return ROW * (len(self.rows) - 1) if self.runs(p) else 0
+
+    def place(self):
+        """The width, where the legend's items and the lanes are, and the height."""
+        self.width = max(self.x(len(self.made) + 1) + RIGHT, 900)
+        self.items, x, y = [], 12, 20
+        for item in LEGEND + (LETTERED if self.lettered else ()):
+            wide = 30 + len(item[2]) * LETTER * 11 + 16
+            if x + wide > self.width:
+                x, y = 12, y + 20
+            self.items.append((x, y, *item))
+            x += wide
+        self.calls_at = y + 30
+        at, self.tops = y + 38, {}
+        for p in self.lanes:
+            self.tops[p] = at
+            most = max([len(lines) for (lane, _), lines in self.texts.items() if lane == p] + [0])
+            at += max(ABOVE + self.height(p) + BELOW + most * LINE, ABOVE + 20 + 39 * len(self.owners(p))) + GAP
+        self.total = at
 
     def x(self, k):
-        return LEFT + k * STEP
-
-    def lane(self, p):
-        return TOP + self.lanes.index(p) * (LANE + GAP)
+        return LEFT + BEGIN + (k - (not self.before)) * self.step
 
     def y(self, p, level):
-        return self.lane(p) + LANE - LANE * min(level, self.top) / self.top
+        return self.tops[p] + ABOVE + max(0, self.height(p) - ROW * self.row[level])
 
     def add(self, part, *values):
         self.parts.append(part % values)
 
+    def text(self, x, y, text, size=SIZE, fill=DARK, more=""):
+        self.add('<text x="%.1f" y="%.1f" font-size="%d" fill="%s"%s>%s</text>', x, y, size, fill, more, escape(text))
+
     def draw(self):
-        width = max(self.x(len(self.made)) + RIGHT + STEP, LEGEND + LETTERS * self.lettered)
-        height = TOP + len(self.lanes) * (LANE + GAP) + BOTTOM
         self.add('<svg xmlns="http://www.w3.org/2000/svg" width="%d" height="%d" viewBox="0 0 %d %d" font-family="sans-serif" font-size="12">',
-                 width, height, width, height)
+                 self.width, self.total, self.width, self.total)
         self.add('<rect width="100%%" height="100%%" fill="white"/>')
         self.legend()
+        self.calls()
         for p in self.lanes:
-            self.frame(p)
-            self.bands(p)
-            self.current(p)
-            self.moves(p)
-            self.letters(p)
-        for k, (call, number, text) in enumerate(self.made):
-            self.call(k, call, number, text)
+            self.names(p)
+            if self.runs(p):
+                self.axis(p)
+                self.bands(p)
+                self.current(p)
+                self.moves(p)
+                self.letters(p)
+        for k, (call, number, _, told) in enumerate(self.made):
+            self.ties(k, call, number)
+            self.mark(k, call, number, told)
+        for (p, k), lines in self.texts.items():
+            for n, (line, fill) in enumerate(lines):
+                self.text(self.x(k + 1) + 4, self.tops[p] + ABOVE + self.height(p) + BELOW + LINE * n + 9, line, fill=fill)
         self.add('</svg>')
         return "\n".join(self.parts) + "\n"
 
     def legend(self):
-        self.add('<g fill="#333"><rect x="%d" y="12" width="22" height="12" fill="#cfe0f3"/><text x="%d" y="22">from read mark to write mark</text>',
-                 LEFT, LEFT + 28)
-        self.add('<path d="M%d 18h22" stroke="#15467a" stroke-width="3"/><text x="%d" y="22">current level</text>', LEFT + 230, LEFT + 258)
-        self.add('<circle cx="%d" cy="18" r="4" fill="#15467a"/><text x="%d" y="22">accepted</text>', LEFT + 360, LEFT + 370)
-        self.add('<path d="M%d 13l10 10m0 -10l-10 10" stroke="#b3261e" stroke-width="3"/><text x="%d" y="22">refused, with its number</text>',
-                 LEFT + 445, LEFT + 462)
-        self.add('<path d="M%d 12v12" stroke="#e07b00" stroke-width="7"/><text x="%d" y="22">move, with the number so far</text></g>',
-                 LEFT + 622, LEFT + 632)
-        if self.lettered:
-            self.add('<text x="%d" y="22" fill="#15467a" font-weight="bold">ab</text><text x="%d" y="22" fill="#333">categories of the current label</text>'
-                     '<text x="%d" y="22" fill="#5b86b5" font-size="10">ab</text><text x="%d" y="22" fill="#333">of the read mark</text>',
-                     LEFT + 822, LEFT + 842, LEFT + 1030, LEFT + 1046)
+        for x, y, sample, style, text in self.items:
+            if sample == "ab":
+                self.text(x + 4, y + 4, sample, 11, style, ' font-weight="bold"')
+            else:
+                self.add('<path d="M%d %d%s" fill="none" %s/>', x, y, sample, style)
+            self.text(x + 30, y + 4, text, 11)
 
-    def frame(self, p):
-        y, end = self.lane(p), self.x(len(self.made)) + STEP
-        self.add('<text x="12" y="%d" font-weight="bold">process %d</text>', y + 16, p)
-        owners = []
-        for state in self.seen:
-            if p in state and state[p][0] not in owners:
-                owners.append(state[p][0])
-        for n, owner in enumerate(owners):
-            self.add('<text x="12" y="%d" fill="#555">user %d, clearance %s</text>', y + 34 + 15 * n, owner, words.label_words(self.clearances[owner]))
-        for level in range(self.top + 1):
-            at = self.y(p, level)
-            self.add('<path d="M%d %.1fH%d" stroke="#e4e4e4"/>', LEFT, at, end)
-            label = str(level) if level < self.top else "15"
-            self.add('<text x="%d" y="%.1f" text-anchor="end" fill="#777" font-size="10">%s</text>', LEFT - 6, at + 3.5, label)
+    def calls(self):
+        """The axis of calls: its title, the calls' numbers, and for each a line down all lanes."""
+        self.text(LEFT - 8, self.calls_at, "calls", 11, DARK, ' text-anchor="end" font-weight="bold"')
+        for k in range(len(self.made)):
+            self.add('<path d="M%.1f %.1fV%.1f" stroke="#eeeeee"/>', self.x(k + 1), self.calls_at + 4, self.total - GAP)
+            self.text(self.x(k + 1), self.calls_at, str(k + self.first), 10, DARK, ' text-anchor="middle"')
+
+    def names(self, p):
+        """At the left: the process, and each user who owns it in the picture."""
+        y = self.tops[p] + ABOVE
+        self.text(12, y, "process %d" % p if p != NONE else "above 31", 12, DARK, ' font-weight="bold"')
+        if not self.runs(p):
+            self.text(12, y + 16, "no such process number" if p == NONE else "does not run", 10, GREY)
+        for n, owner in enumerate(self.owners(p)):
+            user = self.users[owner]
+            self.text(12, y + 20 + 39 * n, "user %d%s" % (owner, ", trusted" if user.trusted else ""), 11, GREY)
+            self.text(12, y + 34 + 39 * n, "clearance " + words.label_words(user.clearance), 11, "#3d7a3d")
+
+    def axis(self, p):
+        """The axis of levels: its title, each row, and a zigzag where a row is of several levels."""
+        low, high, end = self.y(p, 0), self.y(p, 15), self.x(len(self.made) + 1)
+        self.text(LEFT - 8, high - 13, "level", 11, DARK, ' text-anchor="end" font-weight="bold"')
+        self.add('<path d="M%d %.1fV%.1f" stroke="%s"/>', LEFT, low, high, GREY)
+        for n, row in enumerate(self.rows):
+            y, several = low - n * ROW, " " in row
+            self.add('<path d="M%d %.1fH%.1f" stroke="#dddddd"%s/>', LEFT, y, end, ' stroke-dasharray="2 4"' if several else "")
+            self.text(LEFT - 8, y + 3.5, row, 10, GREY, ' text-anchor="end"')
+            if several:
+                self.add('<path d="M%d %.1fl-4 3l8 4l-8 4l4 3" fill="none" stroke="%s" stroke-width="2"/>', LEFT, y - 7, GREY)
 
     def spans(self, p):
         """State of p between calls: (first place, behind the last, state)."""
@@ -126,10 +257,14 @@ class Picture:
                 begun = (k, value)
 
     def bands(self, p):
+        """From read mark to write mark, and on it the owner's clearance."""
         for first, last, (_, _, read, write, _) in self.spans(p):
             low, high = self.y(p, read.level), self.y(p, write.level)
-            self.add('<rect x="%.1f" y="%.1f" width="%.1f" height="%.1f" fill="#cfe0f3"/>', self.x(first - 0.5) + STEP / 2, high - 3,
-                     (last - first) * STEP, low - high + 6)
+            self.add('<rect x="%.1f" y="%.1f" width="%.1f" height="%.1f" fill="%s"/>', self.x(first), high - 5, self.x(last) - self.x(first),
+                     low - high + 10, PALE)
+        for first, last, (owner, _, _, _, _) in self.spans(p):
+            self.add('<path d="M%.1f %.1fH%.1f" stroke="%s" stroke-width="7"/>', self.x(first), self.y(p, self.users[owner].clearance.level),
+                     self.x(last), GREEN)
 
     def current(self, p):
         path, previous = "", None
@@ -137,60 +272,57 @@ class Picture:
             join = "L" if previous == first else "M"
             path += "%s%.1f %.1fH%.1f" % (join, self.x(first), self.y(p, label.level), self.x(last))
             previous = last
-        self.add('<path d="%s" fill="none" stroke="#15467a" stroke-width="3"/>', path)
+        if path:
+            self.add('<path d="%s" fill="none" stroke="%s" stroke-width="3"/>', path, BLUE)
 
     def letters(self, p):
-        """Where a set that is not empty begins: of the current label above the line, of the read mark below the band."""
+        """Where another set begins: of the current label above the line, of the read mark below the band."""
         ended, held = None, (0, 0)
         for first, last, (_, current, read, _, _) in self.spans(p):
             held = held if first == ended else (0, 0)
-            for label, before, dx, dy, style in ((current, held[0], 7, -7, 'fill="#15467a" font-weight="bold"'),
-                                                 (read, held[1], 20, 14, 'fill="#5b86b5" font-size="10"')):
-                if label.set and label.set != before:
-                    text = words.label_words(label).split(" ")[1]
-                    self.add('<text x="%.1f" y="%.1f" %s>%s</text>', self.x(first) + dx, self.y(p, label.level) + dy, style, text)
+            for label, before, dy, fill in ((current, held[0], -6, BLUE), (read, held[1], 14, UNDER)):
+                if label.set != before:
+                    self.text(self.x(first) + 6, self.y(p, label.level) + dy, letters(label) or "none", 10, fill, HALO + ' font-weight="bold"')
             ended, held = last, (current.set, read.set)
 
     def moves(self, p):
-        """On the line from the level before to the one after: changes of the label by a call of p that is no set-level."""
-        for k, (call, _, _) in enumerate(self.made):
-            before, after = self.seen[k].get(p), self.seen[k + 1].get(p)
-            if call[1] == p and call[0] != model.SET_LEVEL and before and after and before[1] != after[1]:
-                low, high = sorted((self.y(p, before[1].level), self.y(p, after[1].level)))
-                aside = 9 if low == high else 0      # of the set alone: a mark across the line, its number below
-                self.add('<path d="M%.1f %.1fV%.1f" stroke="#e07b00" stroke-width="7"/>', self.x(k + 1), low - aside, high + aside)
-                self.add('<text x="%.1f" y="%.1f" fill="#b35f00" font-size="12" font-weight="bold">%d</text>', self.x(k + 1) + 7,
-                         (low + high) / 2 + 4 + aside, after[4])
+        """On the line from the level before to the one after; across it, where the set alone changed."""
+        for k in range(len(self.made)):
+            if self.moved(k, p):
+                low, high = sorted(self.y(p, state[p][1].level) for state in self.seen[k:k + 2])
+                aside = 8 if low == high else 0
+                self.add('<path d="M%.1f %.1fV%.1f" stroke="%s" stroke-width="7"/>', self.x(k + 1), low - aside, high + aside, ORANGE)
 
-    def call(self, k, call, number, text):
-        at = self.x(k + 1)
-        self.add('<text x="%.1f" y="%d" text-anchor="middle" fill="#777" font-size="10">%d</text>', at, TOP - 8, k + self.first)
-        p = call[1]
-        if p >= model.PROCESSES:
-            return
-        after, before = self.seen[k + 1].get(p), self.seen[k].get(p)
-        label = (after or before or (0, model.BOTTOM))[1]
-        y = self.y(p, label.level)
-        self.add('<g><title>%d: %s: %d %s</title>', k + self.first, escape(text), number, escape(words.NUMBERS[number]))
-        if number == 0 and call[0] == model.SEND_SIGNAL:
-            self.add('<path d="M%.1f %.1fV%.1f" stroke="#15467a" stroke-dasharray="4 3"/>', at, y, self.y(call[2], self.seen[k + 1][call[2]][2].level))
+    def ties(self, k, call, number):
+        """From an accepted signal to its receiver's read mark, from an accepted clone to the clone's current level."""
+        if number == 0 and call[0] in (model.SEND_SIGNAL, model.CLONE):
+            signal, after = call[0] == model.SEND_SIGNAL, self.seen[k + 1]
+            end = self.y(call[2], after[call[2]][2 if signal else 1].level)
+            self.add('<path d="M%.1f %.1fV%.1f" stroke="%s" %s/>', self.x(k + 1), self.y(call[1], after[call[1]][1].level), end,
+                     BLUE if signal else GREY, 'stroke-dasharray="4 3"' if signal else 'stroke-width="2"')
+            if not signal:
+                self.add('<circle cx="%.1f" cy="%.1f" r="4" fill="white" stroke="%s" stroke-width="2"/>', self.x(k + 1), end, GREY)
+
+    def mark(self, k, call, number, told):
+        at, p = self.x(k + 1), min(call[1], NONE)
+        state = self.seen[k + 1].get(p) or self.seen[k].get(p)
+        y = self.y(p, state[1].level if state else 0)
+        self.add('<g><title>%d: process %d: %s</title>', k + self.first, call[1], escape(told))
         if number == 0:
-            self.add('<circle cx="%.1f" cy="%.1f" r="5" fill="#15467a"/>', at, y)
+            self.add('<circle cx="%.1f" cy="%.1f" r="5" fill="%s"/>', at, y, BLUE)
         else:
-            self.add('<path d="M%.1f %.1fl12 12m0 -12l-12 12" stroke="#b3261e" stroke-width="3"/>'
-                     '<text x="%.1f" y="%.1f" fill="#b3261e" font-size="11" font-weight="bold">%d</text>', at - 6, y - 6, at + 8, y - 7, number)
-        request = words.word(words.REQUESTS, call[0], "?")
-        self.add('<text x="%.1f" y="%.1f" text-anchor="middle" fill="#333" font-size="9">%s</text></g>', at, self.lane(p) + LANE + 15 + 10 * (k % 2),
-                 escape(request))
+            self.add('<path d="M%.1f %.1fl12 12m0 -12l-12 12" stroke="%s" stroke-width="3"/>', at - 6, y - 6, RED)
+            self.text(at + 8, y - 7, str(number), 11, RED, HALO + ' font-weight="bold"')
+        self.add('</g>')
 
 
 def main():
     name = sys.argv[1] if len(sys.argv) > 1 else "setup.bin"
-    first = int(sys.argv[2]) if len(sys.argv) > 2 else 1
-    seen, made, clearances = record(run.read_file(name), sys.stdin.buffer.read())
-    if not 1 <= first <= len(seen):
-        sys.exit("there is no call %d" % first)
-    sys.stdout.write(Picture(seen, made, clearances, first).draw())
+    calls = sys.stdin.buffer.read()
+    first, last = (int(sys.argv[n]) if len(sys.argv) > n else given for n, given in ((2, 1), (3, len(calls) // 4)))
+    if not 1 <= first <= last <= len(calls) // 4 and (first, last) != (1, 0):
+        sys.exit("there are no calls %d to %d" % (first, last))
+    sys.stdout.write(Picture(*record(run.read_file(name), calls[:4 * last]), first).draw())
 
 
 if __name__ == "__main__":

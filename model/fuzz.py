@@ -36,8 +36,12 @@ def text(lines):
     return "".join(line + "\n" for line in lines).encode("ascii")
 
 
-def output(program, folder, calls):
-    return subprocess.run([program], cwd=folder, input=calls, stdout=subprocess.PIPE, check=True).stdout
+def output(program, folder, calls, told=""):
+    """What a program prints; on standard error it must tell this."""
+    made = subprocess.run([program], cwd=folder, input=calls, capture_output=True, check=True)
+    if made.stderr != told.encode():
+        sys.exit("told on standard error: %r" % made.stderr)
+    return made.stdout
 
 
 def place(folder, setup):
@@ -112,26 +116,26 @@ def hostile(folder):
     refused = b"set-up 14 0\n"
     tries = 0
 
-    def check(expected, given=calls):
+    def check(expected, given=calls, why=None):
         nonlocal tries
         tries += 1
-        same(folder, given, output(RUN, folder, given), expected)
+        same(folder, given, output(RUN, folder, given, "setup.bin: %s\n" % why if why else ""), expected)
 
     if os.path.exists(name):
         os.remove(name)
-    check(refused)
+    check(refused, why="No such file or directory")
     os.mkdir(name)
-    check(refused)
+    check(refused, why="Is a directory")
     os.rmdir(name)
     os.symlink("nowhere", name)
-    check(refused)
+    check(refused, why="No such file or directory")
     os.remove(name)
     for data in (b"", bytes(7), bytes(1161), bytes(1168), bytes(4096), bytes(10000000)):
         place(folder, data)
         check(refused)
     os.chmod(name, 0)
     if os.geteuid() != 0:
-        check(refused)
+        check(refused, why="Permission denied")
     os.chmod(name, 0o644)
     setup = b"".join((vectors.switches_record(1, 1, 1, 1), vectors.user_record(2, 0, 0)))
     place(folder, setup)

@@ -6,13 +6,16 @@
  * low four of t; of request 252 the number of moves of process p, where it runs: t; of request 251 the set t for process p, where it runs, as that of
  * its current label, read mark and write mark, each where the first, second or third bit of e is set; of request 250 the set e for object t, where it
  * is live and its level is set; of request 249 the set t for the clearance of user p. Standard output: of each set-up its number and the record's
- * index in two bytes; of each call of an accepted one the outcome's seven bytes, the sixteen counters, for each user how often a process of it moves
+ * index in two bytes; of each call of an accepted one why it is refused, in ten bytes, and in words behind the length of two bytes, both before the
+ * call and after it; the outcome's seven bytes, the sixteen counters, for each user how often a process of it moves
  * at most, the same for number e in four bytes, for each process its moves and its three labels, the calling process's record, the target's record as
  * a process, its record as an object, its effective flags, and for each flag the object that it comes from; then the set-up written out after the
  * calls, behind its length in two bytes; then for each length of a buffer number and length in two bytes, and
  * the buffer, whose bytes were 165, with eight bytes behind it; then for each pair whether the first holds the matter of the second after the calls.
- * Each call is made by value and where the facility is, and each set-up written out; a difference between the two ends the program with status 1, a
- * set-up written out that is not read back as it is with status 3. */
+ * Each call is made by value and where the facility is, why it is refused is asked both ways, and each set-up written out; a difference between the two
+ * ends the program with status 1, a set-up written out that is not read back as it is with status 3, a text that is not cut off as it has to be, or
+ * that touches a byte behind it, with status 4. With an argument it prints the words of each byte as a role, a category and a data type instead, a line
+ * for each byte. */
 #include <stdio.h>
 #include <stdlib.h>
 #include <string.h>
@@ -113,13 +116,58 @@ static void put_in(hv_facility *f, const uint8_t *c)
     if (c[0] == 249 && c[1] < f->users) f->clearancesets[c[1]] = c[2];
 }
 
+enum { ROOM = 512, OTHER = 165 };
+
+/* Whether a buffer has these bytes at its front, and behind them what stood there before. */
+static int holds(const uint8_t *buffer, const uint8_t *bytes, size_t n)
+{
+    for (size_t k = n; k < ROOM; k++)
+        if (buffer[k] != OTHER) return 0;
+    return memcmp(buffer, bytes, n) == 0;
+}
+
+static size_t why_words(const hv_facility *f, const uint8_t *c, int at, uint8_t *out, size_t length)
+{
+    return at ? hv_why_words_at(f, c[0], c[1], c[2], c[3], out, length) : hv_why_words(*f, c[0], c[1], c[2], c[3], out, length);
+}
+
+/* The text of why a call is refused; then into a shorter buffer, and into none. */
+static void put_why_words(const hv_facility *f, const uint8_t *c)
+{
+    uint8_t text[2][ROOM], cut[ROOM];
+    memset(text, OTHER, sizeof text);
+    size_t n = why_words(f, c, 0, text[0], ROOM), shorter = n ? (size_t)(c[1] + c[2] + c[3]) % n : 0;
+    if (why_words(f, c, 1, text[1], ROOM) != n || memcmp(text[0], text[1], ROOM) != 0) exit(1);
+    if (!holds(text[0], text[0], n)) exit(4);
+    for (int at = 0; at < 2; at++) {
+        memset(cut, OTHER, sizeof cut);
+        if (why_words(f, c, at, cut, shorter) != shorter || !holds(cut, text[0], shorter) || why_words(f, c, at, NULL, 0) != 0) exit(4);
+    }
+    put((uint8_t[2]){n & 255, n >> 8 & 255}, 2);
+    put(text[0], n);
+}
+
+static void put_why(const hv_facility *f, const uint8_t *c)
+{
+    hv_failed w[2] = {hv_why(*f, c[0], c[1], c[2], c[3]), hv_why_at(f, c[0], c[1], c[2], c[3])};
+    uint8_t b[2][10];
+    for (int k = 0; k < 2; k++)
+        memcpy(b[k], (uint8_t[10]){w[k].unset, w[k].fixed, w[k].clearance, w[k].writemark, w[k].readmark, w[k].receiver, w[k].nocategory, w[k].category,
+                                   w[k].datatype, w[k].flag}, 10);
+    if (memcmp(b[0], b[1], 10) != 0) exit(1);
+    put(b[0], 10);
+    put_why_words(f, c);
+}
+
 static void one_call(hv_facility *f, const uint8_t *c)
 {
     put_in(f, c);
+    put_why(f, c);
     hv_outcome q = hv_query_at(f, c[0], c[1], c[2], c[3]);
     hv_enforced e = hv_enforce(*f, c[0], c[1], c[2], c[3]);
     hv_outcome o = hv_enforce_at(f, c[0], c[1], c[2], c[3]);
     if (memcmp(&o, &e.outcome, sizeof o) || memcmp(&o, &q, sizeof o) || !same(f, &e.facility)) exit(1);
+    put_why(f, c);
     uint32_t refusals[HV_USERS];
     for (uint8_t u = 0; u < HV_USERS; u++) refusals[u] = hv_refusals(*f, u);
     put((uint8_t[7]){o.number, o.mac, o.fc, o.sim, o.combined, o.object, o.ff}, 7);
@@ -157,8 +205,32 @@ static void put_room(hv_facility f, size_t room)
     put(out[0], room + BEHIND);
 }
 
-int main(void)
+/* The word of a byte, and a byte behind it. */
+static void put_word(size_t (*words)(uint8_t, uint8_t *, size_t), uint8_t byte, char behind)
 {
+    uint8_t text[ROOM], cut[ROOM];
+    memset(text, OTHER, sizeof text);
+    memset(cut, OTHER, sizeof cut);
+    size_t n = words(byte, text, ROOM), shorter = n ? byte % n : 0;
+    if (n > HV_WORD_MOST || !holds(text, text, n) || words(byte, cut, shorter) != shorter || !holds(cut, text, shorter) || words(byte, NULL, 0) != 0) exit(4);
+    put(text, n);
+    put(&behind, 1);
+}
+
+static int all_words(void)
+{
+    for (int byte = 0; byte < 256; byte++) {
+        put_word(hv_role_words, (uint8_t)byte, ',');
+        put_word(hv_category_words, (uint8_t)byte, ',');
+        put_word(hv_data_type_words, (uint8_t)byte, '\n');
+    }
+    return fflush(stdout) ? 2 : 0;
+}
+
+int main(int count, char **arguments)
+{
+    (void)arguments;
+    if (count > 1) return all_words();
     static uint8_t setup[65536], list[1 << 20];
     uint8_t b[4], counters[4 * HV_USERS];
     while (take(b, 2)) {
@@ -184,7 +256,7 @@ int main(void)
         for (int pairs = b[0]; pairs > 0; pairs--) {
             uint8_t pair[2];
             need(pair, 2);
-            put((uint8_t[1]){hv_holds(setup, length, list, calls * 4, pair[0], pair[1])}, 1);
+            put((uint8_t[1]){hv_holds(setup, length, list, calls * 4, pair[0], pair[1]).holds}, 1);
         }
     }
     return fflush(stdout) ? 2 : 0;

@@ -2,16 +2,18 @@
 
 Set-ups and lists of calls from the seed, until CALLS calls were made, through model/library.c: those of fuzz.py, as many in which many users and
 objects meet calls that the modules judge, and as many in which labels move; most set-ups have categories. Each call is made by value and where the
-facility is. After each call its outcome, the sixteen counters of refusals, for each user how often its processes move at most, for every process the
-number of moves and all labels, level and set, the calling process, the target as a process and the target as an object are compared, the object with
-its effective flags and where each comes from; after the last call the set-up written out, which must be read back, also into buffers that are too
-short or longer: of the first lists of each kind into those of every length up to 8 bytes beyond the need. Half of the lists begin with counters that
-C put into the facility, at their stop, next to it, or anywhere; in some C puts in marks of open objects, so that a write meets a read-only file,
-which no list of calls has open for writing, or levels and sets of a process, so that with MAC off there are labels other than the first ones, which
-no list of calls gives, or a number of moves, at its stop, next to it, or any, or sets of any byte for a process, an object or a clearance. Where C put
-in no labels and no moves, each number of moves is held against the history of its process, and is at most the owner's clearance's level plus its
-number of categories plus 1. Of some lists with accepted signals hv_holds is asked who holds whose matter, which it works out from the set-up and the
-calls. examples/c/library makes the library; cc, or what CC names, builds the program. Ends with the number of calls, or at the first difference.
+facility is. Before each call and after it what is told of why it is refused is compared, as bytes and in words. After each call its outcome, the
+sixteen counters of refusals, for each user how often its processes move at most, for every process the number of moves and all labels, level and set,
+the calling process, the target as a process and the target as an object are compared, the object with its effective flags and where each comes from;
+after the last call the set-up written out, which must be read back, also into buffers that are too short or longer: of the first lists of each kind
+into those of every length up to 8 bytes beyond the need. Half of the lists begin with counters that C put into the facility, at their stop, next to
+it, or anywhere; in some C puts in marks of open objects, so that a write meets a read-only file, which no list of calls has open for writing, or
+levels and sets of a process, so that with MAC off there are labels other than the first ones, which no list of calls gives, or a number of moves, at
+its stop, next to it, or any, or sets of any byte for a process, an object or a clearance. Where C put in no labels and no moves, each number of moves
+is held against the history of its process, and is at most the owner's clearance's level plus its number of categories plus 1. Of some lists with
+accepted signals hv_holds is asked who holds whose matter, which it works out from the set-up and the calls. The words of roles, categories and data
+types are compared once, of every byte. examples/c/library makes the library; cc, or what CC names, builds the program. Ends with the number of calls,
+or at the first difference.
 """
 
 import collections
@@ -24,9 +26,11 @@ import time
 import fuzz
 import model
 import moves
+import reasons
 import vectors
 from model import Label
 from records import object_record, switches_record, user_record
+from words import category_words, data_type_words, role_words, why_words
 
 ROOT = os.path.abspath(os.path.join(os.path.dirname(os.path.abspath(__file__)), ".."))
 PROGRAM = os.path.join(ROOT, "target", "c", "library")
@@ -37,7 +41,6 @@ MOVES = 252                   # the same for the number of moves of a process
 SETS = 251                    # the same for the sets of its labels
 OBJECT_SET = 250              # the same for the set of an object's label
 CLEARANCE_SET = 249           # the same for the set of a user's clearance
-CALL_BYTES = 7 + 4 * model.MAX_USERS + model.MAX_USERS + 4 + 7 * model.PROCESSES + 10 + 10 + 8 + 1 + 5
 BATCH = 100
 EVERY = 12                    # so many lists are written out into buffers of every length
 BEYOND = 8
@@ -45,6 +48,7 @@ OTHER = 165                   # what stands in a buffer before
 JUDGED = (model.READ_OPEN, model.READ_OPEN, model.SEARCH, model.GET_STATUS, model.WRITE_OPEN, model.READ_WRITE_OPEN)
 PAIRS = 6                     # so many times the account is asked of a list at most
 ASKED = 16                    # of objects below this number
+STATUSES = {1: "differs: by value and where the facility is", 3: "differs: a set-up written out is not read back", 4: "differs: a text cut off"}
 
 
 def build():
@@ -285,8 +289,15 @@ def put_in(facility, call):
         put_clearance_set(facility, p, t)
 
 
+def why_bytes(facility, call):
+    """What the library tells of why a call is refused: bytes, and words behind their length."""
+    failed = reasons.failed(facility, call)
+    text = why_words(facility, call, failed).encode("ascii")
+    return bytes(failed) + len(text).to_bytes(2, "little") + text
+
+
 def call_bytes(facility, call, outcome):
-    """What the library gives of a call."""
+    """What the library gives of a call after it."""
     most = bytes(model.most_moves(facility, user) for user in range(model.MAX_USERS)) + words([model.most_moves(facility, call[3])])
     carried = b"".join(bytes((process.moves, *label_bytes(process))) if process else bytes(7) for process in facility.processes)
     return (bytes(outcome) + words(facility.refusals) + most + carried + record(facility, call[1]) + record(facility, call[2])
@@ -307,6 +318,8 @@ class Seen:
         seen, facility = self.seen, self.facility
         if outcome.number in (12, 13):
             seen["denied"] += 1
+            failed = reasons.failed(facility, self.call)
+            seen.update(name for name, value in zip(failed._fields, failed) if value)
             seen["at a stop"] += facility.refusals == self.refusals
             seen["by FF"] += outcome.ff == model.NOT_GRANTED
             seen["write"] += outcome.ff == model.NOT_GRANTED and request == model.WRITE and facility.objects[t].kind != model.DIRECTORY
@@ -331,10 +344,10 @@ def follow(setup, facility, calls, out, seen):
     for i in range(0, len(calls) - 3, 4):
         call = tuple(calls[i:i + 4])
         put_in(facility, call)
-        before = Seen(seen, facility, call)
+        before, why = Seen(seen, facility, call), why_bytes(facility, call)
         outcome = held.enforce(call) if fresh else model.enforce(facility, call)
         before.after(outcome)
-        out.append(call_bytes(facility, call, outcome))
+        out.append(why + why_bytes(facility, call) + call_bytes(facility, call, outcome))
         account.note(call, outcome.number == 0)
         if call[0] != model.SEND_SIGNAL:
             without.note(call, outcome.number == 0)
@@ -347,11 +360,11 @@ def follow(setup, facility, calls, out, seen):
 
 
 def expected(rng, setup, begin, calls, every, seen):
-    """What the library gives of a list, and the lengths of buffers and the pairs of the account that it is asked for."""
+    """What the library gives of a list, of its set-up, each call, and then, and the lengths of buffers and the pairs of the account that it is asked for."""
     number, index, facility = model.read_setup(setup)
     out = [bytes((number, index % 256, index // 256))]
     if number != 0:
-        return b"".join(out), [], []
+        return out, [], []
     facility.refusals = list(begin)
     signals = seen["signals"]
     account, without = follow(setup, facility, calls, out, seen)
@@ -367,7 +380,7 @@ def expected(rng, setup, begin, calls, every, seen):
         out.append(bytes(account.object_holds(x, c) for x, c in pairs))
         seen["asked"] += len(pairs)
         seen["by a signal"] += sum(account.object_holds(x, c) and not without.object_holds(x, c) for x, c in pairs)
-    return b"".join(out), rooms, pairs
+    return out, rooms, pairs
 
 
 def compare(rng, cases, seen):
@@ -378,25 +391,32 @@ def compare(rng, cases, seen):
                      for (setup, begin, calls), (_, rooms, pairs) in zip(cases, wants))
     run = subprocess.run([PROGRAM], input=given, stdout=subprocess.PIPE)
     if run.returncode != 0:
-        sys.exit({1: "differs: by value and where the facility is", 3: "differs: a set-up written out is not read back"}.get(
-            run.returncode, "the program failed: status %d" % run.returncode))
+        sys.exit(STATUSES.get(run.returncode, "the program failed: status %d" % run.returncode))
     at = 0
-    for (setup, begin, calls), (want, _, _) in zip(cases, wants):
-        got = run.stdout[at:at + len(want)]
-        at += len(want)
-        if got != want:
-            k = next(i for i in range(len(want)) if got[i:i + 1] != want[i:i + 1])
-            made, within = divmod(k - 3, CALL_BYTES)
-            place = "at call %d of %d, byte %d" % (made, len(calls) // 4, within) if made < len(calls) // 4 else "behind the calls"
-            place = place if k >= 3 else "at the set-up"
-            sys.exit("differs %s:\nset-up %s\ncounters %s\ncalls %s" % (place, setup.hex(), begin, calls.hex()))
+    for (setup, begin, calls), (wanted, _, _) in zip(cases, wants):
+        for n, want in enumerate(wanted):
+            got = run.stdout[at:at + len(want)]
+            at += len(want)
+            if got != want:
+                place = "at the set-up" if n == 0 else "at call %d of %d" % (n - 1, len(calls) // 4) if n <= len(calls) // 4 else "behind the calls"
+                sys.exit("differs %s: got\n%s, wanted\n%s;\nset-up %s\ncounters %s\ncalls %s" % (
+                    place, got.hex(), want.hex(), setup.hex(), begin, calls.hex()))
     if at != len(run.stdout):
         sys.exit("differs: bytes behind the last call")
+
+
+def compare_words():
+    """The words of every byte as a role, a category and a data type."""
+    run = subprocess.run([PROGRAM, "words"], stdout=subprocess.PIPE)
+    wanted = "".join("%s,%s,%s\n" % (role_words(byte), category_words(byte), data_type_words(byte)) for byte in range(256))
+    if run.returncode != 0 or run.stdout != wanted.encode("ascii"):
+        sys.exit(STATUSES.get(run.returncode, "differs: the words of roles, categories and data types"))
 
 
 def main():
     seed, most = int(sys.argv[1]), int(sys.argv[2])
     build()
+    compare_words()
     rng = random.Random(seed)
     begun, made, lists, seen, batch = time.time(), 0, 0, collections.Counter(), []
     for case in fuzz.cases(rng):
@@ -409,11 +429,12 @@ def main():
             batch = []
         if made >= most:
             break
-    print("seed %d: %d calls in %d lists through the library, %d denied, %d of them at a stop, %d by FF, %d of these a write; "
+    told = ", ".join("%s %d" % (name, seen[name]) for name in reasons.Failed._fields)
+    print("seed %d: %d calls in %d lists through the library, %d denied (%s), %d of them at a stop, %d by FF, %d of these a write; "
           "%d signals accepted, %d of them raised a mark; %d calls with categories in the set-up; %d moves, %d of them of the set, %d at the stop, "
           "%d numbers held against their history, %d lists at the bound, %d of them with categories; "
           "the account asked %d times, %d of them true by a signal alone; written into %d buffers, of every length for %d lists; none differs; %.0f s" % (
-              seed, made, lists, seen["denied"], seen["at a stop"], seen["by FF"], seen["write"], seen["signals"], seen["raised"],
+              seed, made, lists, seen["denied"], told, seen["at a stop"], seen["by FF"], seen["write"], seen["signals"], seen["raised"],
               seen["with categories"], seen["moves"], seen["moves of the set"], seen["moves at the stop"], seen["histories"], seen["at the bound"],
               seen["at the bound with categories"], seen["asked"], seen["by a signal"], seen["buffers"], seen["of every length"], time.time() - begun))
 

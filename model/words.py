@@ -3,6 +3,7 @@
 import sys
 
 import model
+import reasons
 import run
 
 KINDS = ["file", "directory", "channel", "control data"]
@@ -16,6 +17,12 @@ NUMBERS = ["accepted", "no such request", "no such process number", "process doe
            "too many users or objects", "a byte is not allowed", "buffer is too short", "parent is no earlier directory"]
 FLAGS = {model.READ_ONLY: "read-only", model.NO_EXECUTE: "no-execute", model.NO_DELETE: "no-delete", model.SEARCH_ONLY: "search-only",
          model.ADD_INHERITED: "add-inherited"}
+ROLES = ["general", "security officer", "system administrator"]
+CATEGORIES = ["general", "security", "system"]
+DATA_TYPES = ["none", "security information"]
+REASONS = {"unset": "level unset", "fixed": "automatic off", "clearance": "label not under the clearance",
+           "writemark": "label not under the write mark", "readmark": "label not over the read mark", "receiver": "current labels differ",
+           "nocategory": "category unset", "category": "category not of the role", "datatype": "security information, not security officer"}
 
 
 def word(words, number, none):
@@ -32,10 +39,24 @@ def process_words(facility, p):
     process = facility.processes[p] if p < model.PROCESSES else None
     if process is None:
         return "not running"
-    clearance = facility.users[process.owner].clearance
-    return "user %d, clearance %s, current %s, marks %s to %s, moved %d times of at most %d" % (
-        process.owner, *map(label_words, (clearance, process.current, process.read_mark, process.write_mark)), process.moves,
-        model.most_moves(facility, process.owner))
+    owner = facility.users[process.owner]
+    return "user %d, %s, %s, clearance %s, current %s, marks %s to %s, %s, moved %d times of at most %d" % (
+        process.owner, role_words(owner.role), "trusted" if owner.trusted else "untrusted",
+        *map(label_words, (owner.clearance, process.current, process.read_mark, process.write_mark)),
+        "automatic" if process.automatic else "not automatic", process.moves, model.most_moves(facility, process.owner))
+
+
+def role_words(role):
+    return word(ROLES, role, "no role")
+
+
+def category_words(category):
+    """Of an object's category, which FC looks at."""
+    return "unset" if category == model.UNSET else word(CATEGORIES, category, "no category")
+
+
+def data_type_words(data_type):
+    return word(DATA_TYPES, data_type, "no data type")
 
 
 def object_words(facility, t):
@@ -43,7 +64,9 @@ def object_words(facility, t):
     if thing is None or not thing.live:
         return " object %d (not live)" % t
     label = "unset" if thing.label.level == model.UNSET else label_words(thing.label)
-    return " object %d (%s, level %s%s)" % (t, KINDS[thing.kind], label, flag_words(facility, t) if facility.ff_on else "")
+    return " object %d (%s, level %s, category %s, data type %s%s)" % (
+        t, KINDS[thing.kind], label, category_words(thing.category), data_type_words(thing.data_type),
+        flag_words(facility, t) if facility.ff_on else "")
 
 
 def flag_words(facility, t):
@@ -51,19 +74,23 @@ def flag_words(facility, t):
     return "".join(", " + name for flag, name in FLAGS.items() if effective & flag)
 
 
-def reason(facility, request, t):
-    """The first flag that forbids the request, and the object that it comes from."""
-    flag = model.forbidding_flags(facility, request, t)[0]
-    return " by %s of object %d" % (FLAGS[flag], model.flag_source(facility, t, flag))
+def why_words(facility, call, failed=None):
+    """What failed of a refused call; nothing of any other."""
+    failed = failed or reasons.failed(facility, call)
+    told = [text for name, text in REASONS.items() if getattr(failed, name)]
+    if failed.flag:
+        told.append("%s of object %d" % (FLAGS[failed.flag], model.flag_source(facility, call[2], failed.flag)))
+    return "".join(" (%s)" % text for text in told)
 
 
-def target_words(facility, request, t, e):
+def target_words(facility, call):
+    request, p, t, e = call
     if request > 21:
         return " number %d" % request
     if request == model.LOGIN:
         return " user %d" % e
     if request == model.CLONE:
-        return " process %d" % t
+        return " to process %d, the clone of process %d" % (t, p)
     if request == model.SEND_SIGNAL:
         return " process %d (%s)" % (t, process_words(facility, t))
     if request == model.SET_LEVEL:
@@ -76,20 +103,19 @@ def target_words(facility, request, t, e):
 
 
 def sentence(index, facility, call):
-    request, p, t, e = call
-    before = process_words(facility, p)
-    target = target_words(facility, request, t, e)
+    request, p, t, _ = call
+    begin = "%d process %d (%s): %s%s" % (index, p, process_words(facility, p), word(REQUESTS, request, "no request"), target_words(facility, call))
+    why = why_words(facility, call)
     caller = facility.processes[p] if p < model.PROCESSES else None
     outcome = model.enforce(facility, call)
-    receiver = "; process %d then %s" % (t, process_words(facility, t)) if request == model.SEND_SIGNAL else ""
+    made = ", object %d" % outcome.object_number if outcome.object_number != model.NO_OBJECT else ""
+    later = "; process %d then %s" % (t, process_words(facility, t)) if request in (model.SEND_SIGNAL, model.CLONE) else ""
     counted = ""
     if outcome.number in (12, 13):
         counted = "; refusals of user %d: %d" % (caller.owner, facility.refusals[caller.owner])
-    flag = reason(facility, request, t) if outcome.ff == model.NOT_GRANTED else ""
-    return "%d process %d (%s): %s%s: MAC %s, FC %s, SIM %s, FF %s%s, combined %s: %d %s; then %s%s%s" % (
-        index, p, before, word(REQUESTS, request, "no request"), target, ANSWERS[outcome.mac], ANSWERS[outcome.fc], ANSWERS[outcome.sim],
-        ANSWERS[outcome.ff], flag, ANSWERS[outcome.combined], outcome.number, NUMBERS[outcome.number], process_words(facility, p), receiver,
-        counted)
+    return "%s: MAC %s, FC %s, SIM %s, FF %s, combined %s: %d %s%s%s; then %s%s%s" % (
+        begin, *(ANSWERS[answer] for answer in (outcome.mac, outcome.fc, outcome.sim, outcome.ff, outcome.combined)), outcome.number,
+        NUMBERS[outcome.number], why, made, process_words(facility, p), later, counted)
 
 
 def tell(setup, calls):

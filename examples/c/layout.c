@@ -63,6 +63,16 @@ _Static_assert(offsetof(hv_object_record, label) == 2 && offsetof(hv_object_reco
                && offsetof(hv_object_record, flags) == 6 && offsetof(hv_object_record, parent) == 7, "object record");
 _Static_assert(sizeof(hv_summary_record) == 6 && offsetof(hv_summary_record, entered) == 4 && offsetof(hv_summary_record, ff) == 5, "summary");
 
+_Static_assert(sizeof(hv_held) == 4 && offsetof(hv_held, number) == 1 && offsetof(hv_held, index) == 2, "held");
+_Static_assert(sizeof(hv_setup_numbers) == 4 && offsetof(hv_setup_numbers, index) == 2, "set-up numbers");
+_Static_assert(offsetof(hv_account, kinds) == 1 && offsetof(hv_account, objects) == 136 && offsetof(hv_account, processes) == 2184
+               && sizeof(hv_account) == 2696, "account");
+
+_Static_assert(sizeof(hv_failed) == 10 && offsetof(hv_failed, unset) == 0 && offsetof(hv_failed, fixed) == 1 && offsetof(hv_failed, clearance) == 2
+               && offsetof(hv_failed, writemark) == 3 && offsetof(hv_failed, readmark) == 4 && offsetof(hv_failed, receiver) == 5
+               && offsetof(hv_failed, nocategory) == 6 && offsetof(hv_failed, category) == 7 && offsetof(hv_failed, datatype) == 8
+               && offsetof(hv_failed, flag) == 9, "failed");
+
 /* The paddings: from, and behind the last byte. */
 enum { PAD = offsetof(hv_facility, opens) + HV_PROCESSES * HV_OBJECTS, PAD_END = offsetof(hv_facility, refusals) };
 enum { TAIL = offsetof(hv_facility, writesets) + HV_PROCESSES, TAIL_END = sizeof(hv_facility) };
@@ -266,6 +276,10 @@ static void shield(void)
     hv_enforce_at(&r.facility, HV_LOGIN, 0, 0, 0);
     hv_outcome o = hv_enforce_at(&r.facility, HV_WRITE_OPEN, 0, 2, 0);
     expect(o.number == HV_DENIED && o.ff == HV_NOT_GRANTED && o.combined == HV_NOT_GRANTED && o.object == HV_NO_OBJECT, "shield", o.number);
+    static const char why[] = " (read-only of object 1)";
+    uint8_t said[HV_WHY_MOST];
+    size_t n = hv_why_words(r.facility, HV_WRITE_OPEN, 0, 2, 0, said, sizeof said);
+    expect(hv_why(r.facility, HV_WRITE_OPEN, 0, 2, 0).flag == HV_READ_ONLY && n == strlen(why) && memcmp(said, why, n) == 0, "reason of a shield", (int)n);
     expect(hv_effective_flags(r.facility, 2) == (HV_ADD_INHERITED | HV_READ_ONLY), "effective flags of a shield", 2);
     expect(hv_flag_source(r.facility, 2, HV_READ_ONLY) == 1 && hv_flag_source(r.facility, 2, HV_NO_DELETE) == HV_NO_OBJECT, "source of a shield", 2);
     uint8_t damaged[sizeof setup];
@@ -328,9 +342,9 @@ static void signals(void)
     uint8_t list[sizeof calls + sizeof carried];
     memcpy(list, calls, sizeof calls);
     memcpy(list + sizeof calls, carried, sizeof carried);
-    expect(hv_holds(setup, sizeof setup, list, sizeof list, 1, 0), "matter carried by a signal", 1);
+    expect(hv_holds(setup, sizeof setup, list, sizeof list, 1, 0).holds, "matter carried by a signal", 1);
     list[sizeof calls + 2] = 3;
-    expect(!hv_holds(setup, sizeof setup, list, sizeof list, 1, 0), "matter of a refused signal", 1);
+    expect(!hv_holds(setup, sizeof setup, list, sizeof list, 1, 0).holds, "matter of a refused signal", 1);
 }
 
 /* A call by value and where the facility is: both accept it, the number of moves of process p is then this one, and nobody else's has changed. */
@@ -445,6 +459,115 @@ static void labels(void)
     signal_to(f, 1, 0, HV_DENIED, 0, "signal to another set");
 }
 
+/* What is read of a facility where it is, against the same by value: records have no padding. */
+static void getters(hv_facility f)
+{
+    hv_summary_record s = hv_summary(f), at = hv_summary_at(&f);
+    expect(memcmp(&s, &at, sizeof s) == 0, "summary where it is", s.users);
+    for (int n = 0; n < 256; n++) {
+        uint8_t k = (uint8_t)n, other = below(256);
+        hv_user_record u = hv_user(f, k), u_at = hv_user_at(&f, k);
+        hv_process_record p = hv_process(f, k), p_at = hv_process_at(&f, k);
+        hv_object_record o = hv_object(f, k), o_at = hv_object_at(&f, k);
+        expect(memcmp(&u, &u_at, sizeof u) == 0, "user where it is", n);
+        expect(memcmp(&p, &p_at, sizeof p) == 0, "process where it is", n);
+        expect(memcmp(&o, &o_at, sizeof o) == 0, "object where it is", n);
+        expect(hv_refusals(f, k) == hv_refusals_at(&f, k), "refusals where they are", n);
+        expect(hv_most_moves(f, k) == hv_most_moves_at(&f, k), "most moves where it is", n);
+        expect(hv_open_marks(f, k, other) == hv_open_marks_at(&f, k, other), "marks where they are", n);
+        expect(hv_effective_flags(f, k) == hv_effective_flags_at(&f, k), "effective flags where they are", n);
+        for (size_t i = 0; i < sizeof each_flag; i++)
+            expect(hv_flag_source(f, k, each_flag[i]) == hv_flag_source_at(&f, k, each_flag[i]), "source where it is", n);
+    }
+}
+
+/* Set-ups read where the facility is, by value and by replay of no call; the padding stays. */
+static void read_both_ways(const uint8_t *setup, size_t length)
+{
+    hv_facility f = likely(), before = f;
+    hv_reading r = hv_read_setup(setup, length), replayed = hv_replay(setup, length, setup, 0);
+    hv_setup_numbers n = hv_read_setup_at(setup, length, &f);
+    expect(n.number == r.number && n.index == r.index, "numbers of a set-up read where it is", n.number);
+    expect(replayed.number == r.number && replayed.index == r.index, "numbers of a replay", replayed.number);
+    expect(same_facility(&f, &r.facility) && same_paddings(&f, &before), "set-up read where it is", n.number);
+    expect(same_facility(&replayed.facility, &r.facility), "replay of no call", n.number);
+    expect(hv_holds(setup, length, setup, 0, 0, 0).number == r.number, "number of an account", n.number);
+}
+
+/* The account that is kept along, against the one that is worked out from all calls so far; objects hold more than their own matter. */
+static void account(void)
+{
+    enum { CALLS = 600, GIVEN = 5, ASKED = 100, SOME = 16 };
+    static uint8_t calls[CALLS][4] = {{HV_LOGIN, 0, 0, 0}, {HV_READ_OPEN, 0, 0, 0}, {HV_READ, 0, 0, 0}, {HV_WRITE_OPEN, 0, 1, 0}, {HV_WRITE, 0, 1, 0}};
+    hv_facility f = hv_read_setup(projects, sizeof projects).facility;
+    hv_account a = hv_account_start(f);
+    int held = 0;
+    for (size_t k = 0; k < CALLS; k++) {
+        uint8_t *c = calls[k];
+        if (k >= GIVEN) memcpy(c, (uint8_t[4]){below(22), below(3), below(6), below(4)}, sizeof calls[k]);
+        a = hv_account_step(a, c[0], c[1], c[2], c[3], hv_enforce_at(&f, c[0], c[1], c[2], c[3]).number == HV_ACCEPTED);
+        for (int i = 0; (k + 1 == GIVEN || (k + 1) % ASKED == 0) && i < SOME * SOME; i++) {
+            uint8_t x = (uint8_t)(i / SOME), y = (uint8_t)(i % SOME);
+            hv_held h = hv_holds(projects, sizeof projects, calls[0], (k + 1) * sizeof calls[k], x, y);
+            expect(h.number == HV_ACCEPTED && h.holds == hv_account_holds(a, x, y), "account kept along", x);
+            held += x != y && h.holds;
+        }
+    }
+    expect(held > 0, "matter that came from another object", held);
+}
+
+typedef size_t words_of(uint8_t number, uint8_t *out, size_t length);
+
+/* A word of the library, where there is room and where it is cut off. */
+static void word_is(words_of *words, uint8_t n, const char *expected)
+{
+    uint8_t out[HV_WORD_MOST], cut[4] = "????";
+    size_t length = words(n, out, sizeof out), part = strlen(expected) < 3 ? strlen(expected) : 3;
+    expect(length == strlen(expected) && memcmp(out, expected, length) == 0, expected, n);
+    expect(words(n, cut, 3) == part && memcmp(cut, expected, part) == 0 && cut[3] == '?', expected, n);
+}
+
+static void words(void)
+{
+    word_is(hv_request_words, HV_SET_LEVEL, "set-level");
+    word_is(hv_request_words, 22, "no request");
+    word_is(hv_kind_words, HV_CONTROL_DATA, "control data");
+    word_is(hv_answer_words, HV_NOT_GRANTED, "not granted");
+    word_is(hv_flag_words, HV_ADD_INHERITED, "add-inherited");
+    word_is(hv_role_words, HV_SECURITY_OFFICER, "security officer");
+    word_is(hv_role_words, 3, "no role");
+    word_is(hv_category_words, HV_CATEGORY_SYSTEM, "system");
+    word_is(hv_category_words, HV_UNSET, "unset");
+    word_is(hv_category_words, 254, "no category");
+    word_is(hv_data_type_words, HV_SECURITY_INFORMATION, "security information");
+    word_is(hv_data_type_words, 2, "no data type");
+    word_is(hv_number_words, HV_SETUP_PARENT, "parent is no earlier directory");
+    word_is(hv_number_words, 9, "object is not open in that mode");
+    expect(hv_version() == HV_VERSION && hv_facility_size() == HV_FACILITY_SIZE && sizeof(hv_facility) == HV_FACILITY_SIZE, "version", HV_VERSION);
+}
+
+/* Why a call is refused, by value and where the facility is, before the call and after it: some condition failed exactly with 12 and 13, and one of the
+ * module that said no. The words are the same both ways, and are cut off where they do not fit. */
+static void reasons(const hv_facility *before, const hv_facility *after, const uint8_t c[4], hv_outcome o)
+{
+    static const hv_failed none;
+    uint8_t out[2][HV_WHY_MOST + 1], cut[HV_WHY_MOST + 1];
+    hv_failed w = hv_why_at(before, c[0], c[1], c[2], c[3]), v = hv_why(*before, c[0], c[1], c[2], c[3]), later = hv_why_at(after, c[0], c[1], c[2], c[3]);
+    bool refused = o.number == HV_DENIED || o.number == HV_UNDEFINED_ANSWER, mac = w.fixed || w.clearance || w.writemark || w.readmark || w.receiver;
+    expect(memcmp(&w, &v, sizeof w) == 0, "reasons both ways, request", c[0]);
+    expect(!refused || memcmp(&w, &later, sizeof w) == 0, "reasons after the call, request", c[0]);
+    expect(refused == (memcmp(&w, &none, sizeof w) != 0), "reasons of a refusal, request", c[0]);
+    expect(!refused || (w.unset == (o.mac == HV_UNDEFINED) && mac == (o.mac == HV_NOT_GRANTED)), "reasons of MAC, request", c[0]);
+    expect(!refused || (w.nocategory == (o.fc == HV_UNDEFINED) && w.category == (o.fc == HV_NOT_GRANTED)), "reasons of FC, request", c[0]);
+    expect(!refused || (w.datatype == (o.sim == HV_NOT_GRANTED) && (w.flag != 0) == (o.ff == HV_NOT_GRANTED)), "reasons of SIM and FF, request", c[0]);
+    size_t n = hv_why_words_at(before, c[0], c[1], c[2], c[3], out[0], sizeof out[0]), m = hv_why_words(*before, c[0], c[1], c[2], c[3], out[1], sizeof out[1]);
+    expect(n == m && n <= HV_WHY_MOST && memcmp(out[0], out[1], n) == 0 && (n > 0) == refused, "reasons in words, request", c[0]);
+    memset(cut, '?', sizeof cut);
+    m = hv_why_words_at(before, c[0], c[1], c[2], c[3], cut, n / 2);
+    expect(m == n / 2 && memcmp(cut, out[0], m) == 0 && cut[m] == '?', "reasons in words cut off, request", c[0]);
+    expect(hv_why_words(*before, c[0], c[1], c[2], c[3], NULL, 0) == 0, "no buffer for reasons, request", c[0]);
+}
+
 /* The same calls by value and where the facility is: outcome and facility are the same, and the paddings stay. */
 static void both_ways(hv_facility f)
 {
@@ -458,6 +581,7 @@ static void both_ways(hv_facility f)
         expect(memcmp(&o, &e.outcome, sizeof o) == 0 && memcmp(&q, &o, sizeof o) == 0, "outcome both ways, request", c[0]);
         expect(same_facility(&g, &e.facility), "facility both ways, request", c[0]);
         expect(same_paddings(&g, &f), "padding", c[0]);
+        reasons(&f, &g, c, o);
         f = g;
     }
 }
@@ -480,6 +604,47 @@ static void blocks(hv_facility f)
     }
 }
 
+/* Set-ups and lists of calls with length 0 at a pointer that leads nowhere, against the same at one that does not. */
+static void read_no_bytes(const uint8_t *nowhere)
+{
+    static const uint8_t calls[] = {HV_LOGIN, 0, 0, 0, HV_READ_OPEN, 0, 1, 0};
+    hv_facility f = likely(), g = f;
+    hv_reading r = hv_read_setup(calls, 0), none = hv_read_setup(nowhere, 0);
+    hv_setup_numbers n = hv_read_setup_at(calls, 0, &f), none_at = hv_read_setup_at(nowhere, 0, &g);
+    expect(none.number == r.number && none.index == r.index && same_facility(&none.facility, &r.facility), "a set-up of no bytes", none.number);
+    expect(none_at.number == n.number && none_at.index == n.index && memcmp(&g, &f, sizeof f) == 0, "a set-up of no bytes where it is", none_at.number);
+    r = hv_replay(calls, 0, calls, sizeof calls);
+    none = hv_replay(nowhere, 0, calls, sizeof calls);
+    expect(none.number == r.number && none.index == r.index && same_facility(&none.facility, &r.facility), "replay of no set-up", none.number);
+    r = hv_replay(projects, sizeof projects, calls, 0);
+    none = hv_replay(projects, sizeof projects, nowhere, 0);
+    expect(none.number == r.number && none.index == r.index && same_facility(&none.facility, &r.facility), "replay of no bytes", none.number);
+    for (uint8_t x = 0; x < 2; x++) {
+        hv_held h = hv_holds(projects, sizeof projects, nowhere, 0, x, 1), none_set = hv_holds(nowhere, 0, calls, sizeof calls, x, 1);
+        expect(h.number == HV_ACCEPTED && h.holds == (x == 1), "account of no bytes", x);
+        expect(none_set.number == HV_SETUP_LENGTH && !none_set.holds, "account of no set-up", x);
+    }
+}
+
+/* A buffer of length 0 at a pointer that leads nowhere, and no calls at one. */
+static void write_no_bytes(uint8_t *nowhere)
+{
+    static words_of *const all_words[] = {hv_request_words, hv_kind_words, hv_answer_words, hv_flag_words, hv_number_words, hv_role_words,
+                                         hv_category_words, hv_data_type_words};
+    static const uint8_t calls[] = {HV_LOGIN, 0, 0, 0, HV_READ_OPEN, 0, 1, 0, 255};
+    uint8_t out[2][sizeof calls * HV_LINE_MOST];
+    hv_facility f = likely(), g = f;
+    hv_writing w = hv_write_setup(f, nowhere, 0), w_at = hv_write_setup_at(&f, nowhere, 0);
+    expect(w.number == HV_NO_ROOM && w.length == 0 && w_at.number == HV_NO_ROOM && w_at.length == 0, "no buffer for a set-up", w.number);
+    hv_printed p = hv_put_block(f, 1, calls, sizeof calls, nowhere, 0), q = hv_put_block(f, 1, calls, sizeof calls, out[0], 0);
+    expect(p.length == 0 && q.length == 0 && same_facility(&p.facility, &q.facility), "no buffer for lines", (int)p.length);
+    expect(hv_put_block_at(&g, 1, calls, sizeof calls, nowhere, 0) == 0 && same_facility(&g, &q.facility), "no buffer for lines where it is", 0);
+    expect(hv_put_block_at(&g, 1, nowhere, 0, out[0], sizeof out[0]) == 0 && same_facility(&g, &q.facility), "no calls where it is", 0);
+    expect(hv_put_block(f, 1, nowhere, 0, out[0], sizeof out[0]).length == 0 && hv_put_block(f, 1, nowhere, 0, nowhere, 0).length == 0, "no calls", 0);
+    for (size_t k = 0; k < sizeof all_words / sizeof *all_words; k++)
+        for (int n = 0; n < 256; n++) expect(all_words[k]((uint8_t)n, nowhere, 0) == 0, "no buffer for a word", n);
+}
+
 int main(void)
 {
     srand(1);
@@ -498,6 +663,15 @@ int main(void)
     moves();
     sets_of_setups();
     labels();
+    getters(likely());
+    read_both_ways(projects, sizeof projects);
+    read_both_ways(projects, sizeof projects - 1);
+    account();
+    words();
+    for (uintptr_t nowhere = 0; nowhere < 2; nowhere++) {    /* NULL, and an address that has no byte */
+        read_no_bytes((const uint8_t *)nowhere);
+        write_no_bytes((uint8_t *)nowhere);
+    }
     printf("layout: %d checks, %d differ\n", checks, failures);
     return failures != 0;
 }

@@ -1,5 +1,4 @@
-/* A window of the station: loads a set-up, logs in, opens a file, is refused another, is refused a save in a shielded directory, is refused a file
- * of a project that its user is not cleared for, and says why. */
+/* A window of the station: reads a set-up, logs in, opens files, and says of each refusal why. `examples/c/build` builds and runs it. */
 #include <stdio.h>
 
 #include "hvozdalka.h"
@@ -7,24 +6,24 @@
 /* The categories of two projects, as bits of a set. */
 enum { FERRY = 1, TUG = 2 };
 
-/* MAC and FF on; untrusted users of clearance 2 with both projects, of clearance 0, and of clearance 2 with the tug alone; the yard folder (level 0),
- * the open notes (level 0), the restricted hull lines (level 2); the released drawings, a directory that is read-only (level 0), and a sheet in it,
- * which inherits; the frames of the ferry and of the tug (level 1, each with its project). */
+/* All four modules on. Users: 0 of clearance 2 with both projects, 1 of clearance 0, 2 of clearance 2 with the tug alone. Objects are below, in order. */
 static const uint8_t setup[] = {
-    3, 1, 0, 0, 1, 0, 0, 0,
-    1, 2, HV_GENERAL, 0, FERRY | TUG, 0, 0, 0,
-    1, 0, HV_GENERAL, 0, 0, 0, 0, 0,
-    1, 2, HV_GENERAL, 0, TUG, 0, 0, 0,
-    2, HV_DIRECTORY, 0, 0, 0, 0, 0, 0,
-    2, HV_FILE, 0, 0, 0, 0, 0, 0,
-    2, HV_FILE, 2, 0, 0, 0, 0, 0,
-    2, HV_DIRECTORY, 0, 0, 0, HV_READ_ONLY, 0, 0,
-    2, HV_FILE, 0, 0, 0, HV_ADD_INHERITED, 4, 0,
-    2, HV_FILE, 1, 0, 0, 0, 0, FERRY,
-    2, HV_FILE, 1, 0, 0, 0, 0, TUG,
+    HV_SWITCHES_RECORD, 1, 1, 1, 1, 0, 0, 0,
+    HV_USER_RECORD, 2, HV_GENERAL, 0, FERRY | TUG, 0, 0, 0,
+    HV_USER_RECORD, 0, HV_GENERAL, 0, 0, 0, 0, 0,
+    HV_USER_RECORD, 2, HV_GENERAL, 0, TUG, 0, 0, 0,
+    HV_OBJECT_RECORD, HV_DIRECTORY, 0, 0, 0, 0, 0, 0,
+    HV_OBJECT_RECORD, HV_FILE, 0, 0, 0, 0, 0, 0,
+    HV_OBJECT_RECORD, HV_FILE, 2, 0, 0, 0, 0, 0,
+    HV_OBJECT_RECORD, HV_DIRECTORY, 0, 0, 0, HV_READ_ONLY, 0, 0,
+    HV_OBJECT_RECORD, HV_FILE, 0, 0, 0, HV_ADD_INHERITED, 4, 0,
+    HV_OBJECT_RECORD, HV_FILE, 1, 0, 0, 0, 0, FERRY,
+    HV_OBJECT_RECORD, HV_FILE, 1, 0, 0, 0, 0, TUG,
+    HV_OBJECT_RECORD, HV_FILE, 2, HV_CATEGORY_SECURITY, HV_SECURITY_INFORMATION, 0, 0, 0,
 };
 
-enum { YARD_FOLDER = 0, NOTES = 1, HULL_LINES = 2, RELEASED_DRAWINGS = 3, SHEET = 4, FERRY_FRAMES = 5, TUG_FRAMES = 6 };
+/* The sheet is in the released drawings, which are read-only, and inherits that. */
+enum { YARD_FOLDER, NOTES, HULL_LINES, RELEASED_DRAWINGS, SHEET, FERRY_FRAMES, TUG_FRAMES, BADGE_LIST };
 
 /* A label in words: its level, and a letter for each of its categories, or "all". */
 static const char *label_words(hv_label label, char out[16])
@@ -36,87 +35,92 @@ static const char *label_words(hv_label label, char out[16])
     return out;
 }
 
-static const char *answer_name(uint8_t answer)
+/* Whether the target of a call is an object. */
+static bool has_object(uint8_t request, uint8_t extra)
 {
-    static const char *const names[] = {"does not care", "granted", "not granted", "undefined"};
-    return answer < 4 ? names[answer] : "?";
-}
-
-/* The flag that forbids a save, and the object whose own flag it is. */
-static void say_which_flag(hv_facility f, uint8_t object)
-{
-    uint8_t source = hv_flag_source(f, object, HV_READ_ONLY);
-    if (source == HV_NO_OBJECT) return;
-    if (source == object) printf("    object %d is read-only\n", object);
-    else printf("    object %d is read-only, since object %d above it is\n", object, source);
-}
-
-/* The reason of the commonest refusals, for the person at the window. */
-static void say_why(hv_facility f, uint8_t process, uint8_t object, hv_outcome o)
-{
-    char a[16], b[16], c[16];
-    hv_process_record p = hv_process(f, process);
-    hv_object_record t = hv_object(f, object);
-    switch (o.number) {
-    case HV_ACCEPTED:
-        printf("accepted; current %s, read mark %s, write mark %s; moved %d times of at most %lu\n", label_words(p.current, a), label_words(p.readmark, b),
-               label_words(p.writemark, c), p.moves, (unsigned long)hv_most_moves(f, p.owner));
-        break;
-    case HV_DENIED:
-        printf("refused with %d: MAC %s, FC %s, SIM %s, FF %s\n", o.number, answer_name(o.mac), answer_name(o.fc), answer_name(o.sim),
-               answer_name(o.ff));
-        if (o.mac == HV_NOT_GRANTED)
-            printf("    the user is cleared for %s, the process may have read up to %s, and the object is of %s\n",
-                   label_words(hv_user(f, p.owner).clearance, a), label_words(p.readmark, b), label_words(t.label, c));
-        if (o.ff == HV_NOT_GRANTED) say_which_flag(f, object);
-        break;
-    default:
-        printf("refused with %d\n", o.number);
+    switch (request) {
+    case HV_CLONE: case HV_SEND_SIGNAL: case HV_SET_LEVEL: case HV_TERMINATE: case HV_LOGIN: return false;
+    case HV_CREATE: return extra == HV_FILE || extra == HV_DIRECTORY;
+    default: return true;
     }
 }
 
-static hv_facility call(hv_facility f, const char *words, uint8_t request, uint8_t process, uint8_t target, uint8_t extra)
+/* What a refusal was about: the conditions that failed, the object, and the clearance of the user who owns the process. The refused call has changed none
+ * of them. Where they are of the process alone, its marks or its fixed level, a fresh window of the same user may do what this one may not. */
+static void say_why(const hv_facility *f, uint8_t request, uint8_t process, uint8_t target, uint8_t extra)
 {
-    hv_enforced e = hv_enforce(f, request, process, target, extra);
-    printf("%s: ", words);
-    say_why(e.facility, process, target, e.outcome);
-    return e.facility;
+    char a[16];
+    uint8_t why[HV_WHY_MOST], kind[HV_WORD_MOST];
+    size_t n = hv_why_words_at(f, request, process, target, extra, why, sizeof why);
+    hv_failed failed = hv_why_at(f, request, process, target, extra);
+    uint8_t owner = hv_process_at(f, process).owner;
+    printf("%.*s\n", (int)n, (const char *)why);
+    if (has_object(request, extra)) {
+        hv_object_record t = hv_object_at(f, target);
+        size_t length = hv_kind_words(t.kind, kind, sizeof kind);
+        printf("    object %d: %.*s, level %s\n", target, (int)length, (const char *)kind, t.label.level == HV_UNSET ? "unset" : label_words(t.label, a));
+    }
+    printf("    user %d: clearance %s\n", owner, label_words(hv_user_at(f, owner).clearance, a));
+    if (!(failed.unset || failed.clearance || failed.receiver || failed.nocategory || failed.category || failed.datatype || failed.flag != 0))
+        printf("    a fresh window of this user may do it\n");
+}
+
+/* Where a process is. */
+static void say_process(const hv_facility *f, uint8_t process)
+{
+    char a[16], b[16], c[16];
+    hv_process_record p = hv_process_at(f, process);
+    printf("; process %d: current %s, marks %s to %s, moved %d times of at most %lu\n", process, label_words(p.current, a), label_words(p.readmark, b),
+           label_words(p.writemark, c), p.moves, (unsigned long)hv_most_moves_at(f, p.owner));
+}
+
+/* A call, and what it came to. Only where it is accepted may the window do what it asked for. */
+static void call(hv_facility *f, const char *what, uint8_t request, uint8_t process, uint8_t target, uint8_t extra)
+{
+    uint8_t number[HV_WORD_MOST];
+    hv_outcome o = hv_enforce_at(f, request, process, target, extra);
+    size_t length = hv_number_words(o.number, number, sizeof number);
+    printf("%s: %d %.*s", what, o.number, (int)length, (const char *)number);
+    if (o.number == HV_ACCEPTED) say_process(f, process);
+    else if (o.number == HV_DENIED || o.number == HV_UNDEFINED_ANSWER) say_why(f, request, process, target, extra);
+    else printf("\n");
 }
 
 /* The supervisor's table: refusals by user. */
-static void supervisor(hv_facility f)
+static void supervisor(const hv_facility *f)
 {
     char a[16];
     printf("user  clearance  refusals\n");
-    for (uint8_t u = 0; u < hv_summary(f).users; u++)
-        printf("%4d  %9s  %8lu\n", u, label_words(hv_user(f, u).clearance, a), (unsigned long)hv_refusals(f, u));
+    for (uint8_t u = 0; u < hv_summary_at(f).users; u++)
+        printf("%4d  %9s  %8lu\n", u, label_words(hv_user_at(f, u).clearance, a), (unsigned long)hv_refusals_at(f, u));
 }
 
 int main(void)
 {
-    hv_reading r = hv_read_setup(setup, sizeof setup);
+    static hv_facility f;
+    if (hv_version() != HV_VERSION || hv_facility_size() != sizeof f) {
+        printf("the library is not that of the header\n");
+        return 1;
+    }
+    hv_setup_numbers r = hv_read_setup_at(setup, sizeof setup, &f);
     if (r.number != HV_ACCEPTED) {
         printf("set-up refused with %d at record %d\n", r.number, r.index);
         return 1;
     }
-    hv_facility f = r.facility;
-    f = call(f, "login of user 0 at process 0", HV_LOGIN, 0, 0, 0);
-    f = call(f, "open the hull lines for reading", HV_READ_OPEN, 0, HULL_LINES, 0);
-    f = call(f, "open the notes for writing", HV_WRITE_OPEN, 0, NOTES, 0);
-    f = call(f, "make a file in the yard folder", HV_CREATE, 0, YARD_FOLDER, HV_FILE);
-    f = call(f, "read the hull lines", HV_READ, 0, HULL_LINES, 0);
-    f = call(f, "login of user 1 at process 1", HV_LOGIN, 1, 0, 1);
-    f = call(f, "user 1 opens the hull lines for reading", HV_READ_OPEN, 1, HULL_LINES, 0);
-    f = call(f, "user 1 opens the released sheet for reading", HV_READ_OPEN, 1, SHEET, 0);
-    f = call(f, "user 1 opens the released sheet for writing", HV_WRITE_OPEN, 1, SHEET, 0);
-    f = call(f, "user 1 makes a file in the released drawings", HV_CREATE, 1, RELEASED_DRAWINGS, HV_FILE);
-    f = call(f, "login of user 2 at process 2", HV_LOGIN, 2, 0, 2);
-    f = call(f, "user 2 opens the tug's frames for reading", HV_READ_OPEN, 2, TUG_FRAMES, 0);
-    f = call(f, "user 2 opens the ferry's frames for reading", HV_READ_OPEN, 2, FERRY_FRAMES, 0);
-    f = call(f, "login of user 0 at process 3", HV_LOGIN, 3, 0, 0);
-    f = call(f, "user 0 opens the tug's frames for reading", HV_READ_OPEN, 3, TUG_FRAMES, 0);
-    f = call(f, "user 0 opens the ferry's frames for reading", HV_READ_OPEN, 3, FERRY_FRAMES, 0);
-    f = call(f, "user 0 opens the tug's frames for writing", HV_WRITE_OPEN, 3, TUG_FRAMES, 0);
-    supervisor(f);
+    call(&f, "user 0 logs in as process 0", HV_LOGIN, 0, 0, 0);
+    call(&f, "opens the hull lines for reading", HV_READ_OPEN, 0, HULL_LINES, 0);
+    call(&f, "opens the notes for writing", HV_WRITE_OPEN, 0, NOTES, 0);
+    call(&f, "makes a file in the yard folder", HV_CREATE, 0, YARD_FOLDER, HV_FILE);
+    call(&f, "opens the badge list for writing", HV_WRITE_OPEN, 0, BADGE_LIST, 0);
+    call(&f, "user 1 logs in as process 1", HV_LOGIN, 1, 0, 1);
+    call(&f, "opens the hull lines for reading", HV_READ_OPEN, 1, HULL_LINES, 0);
+    call(&f, "opens the released sheet for reading", HV_READ_OPEN, 1, SHEET, 0);
+    call(&f, "opens the released sheet for writing", HV_WRITE_OPEN, 1, SHEET, 0);
+    call(&f, "makes a file in the released drawings", HV_CREATE, 1, RELEASED_DRAWINGS, HV_FILE);
+    call(&f, "user 2 logs in as process 2", HV_LOGIN, 2, 0, 2);
+    call(&f, "opens the tug's frames for reading", HV_READ_OPEN, 2, TUG_FRAMES, 0);
+    call(&f, "opens the ferry's frames for reading", HV_READ_OPEN, 2, FERRY_FRAMES, 0);
+    call(&f, "signals process 0", HV_SEND_SIGNAL, 2, 0, 0);
+    supervisor(&f);
     return 0;
 }

@@ -53,15 +53,13 @@ extern "C" {
     fn hv_process(f: Facility, process: u8) -> Process;
     fn hv_most_moves(f: Facility, user: u8) -> u32;
     fn hv_refusals(f: Facility, user: u8) -> u32;
-    fn hv_flag_source(f: Facility, object: u8, flag: u8) -> u8;
+    fn hv_why_words_at(f: *const Facility, request: u8, process: u8, target: u8, extra: u8, out: *mut u8, length: usize) -> usize;
 }
 
 const LOGIN: u8 = 21;
 const READ_OPEN: u8 = 13;
 const WRITE_OPEN: u8 = 20;
-const NOT_GRANTED: u8 = 2;
-const READ_ONLY: u8 = 1;
-const NO_OBJECT: u8 = 255;
+const WHY_MOST: usize = 212;
 
 /// MAC and FF on; one untrusted user of clearance 2 with categories a and b; the open notes (level 0), the restricted hull lines (level 2), a
 /// directory of released drawings that is read-only (level 2), and a sheet in it, which inherits (add-inherited 128, parent 2 plus 1); the frames
@@ -114,10 +112,11 @@ impl Facility {
         unsafe { hv_most_moves(*self, user) }
     }
 
-    /// The object whose own flag it is that an object has among its effective ones.
-    pub fn flag_source(&self, object: u8, flag: u8) -> Option<u8> {
-        let source = unsafe { hv_flag_source(*self, object, flag) };
-        (source != NO_OBJECT).then_some(source)
+    /// The conditions that failed where this call is refused with 12 or 13, in words; else nothing.
+    pub fn why(&self, request: u8, process: u8, target: u8, extra: u8) -> String {
+        let mut out = [0; WHY_MOST];
+        let length = unsafe { hv_why_words_at(self, request, process, target, extra, out.as_mut_ptr(), out.len()) };
+        String::from_utf8_lossy(&out[..length]).into_owned()
     }
 
     /// The calls refused with 12 or 13 whose caller the user owned.
@@ -144,11 +143,12 @@ fn main() {
         ("open the frames of project b for writing", WRITE_OPEN, 5),
     ] {
         let foretold = f.query(request, 0, target, 0);
+        let why = f.why(request, 0, target, 0);
         let outcome = f.enforce(request, 0, target, 0);
         assert_eq!(foretold, outcome);
         let p = f.process(0);
         println!(
-            "{words}: number {}; current {}, read mark {}, write mark {}; moved {} times of at most {}",
+            "{words}: number {}{why}; current {}, read mark {}, write mark {}; moved {} times of at most {}",
             outcome.number,
             p.current,
             p.readmark,
@@ -156,11 +156,6 @@ fn main() {
             p.moves,
             f.most_moves(p.owner)
         );
-        if outcome.ff == NOT_GRANTED {
-            if let Some(source) = f.flag_source(target, READ_ONLY) {
-                println!("    object {target} is read-only, and has it from object {source}");
-            }
-        }
     }
     println!("refusals of user 0: {}", f.refusals(0));
 }

@@ -1,5 +1,6 @@
 -- Outcomes as C is given them: the paper's numbers.
 use Prim.Native.Nat.{ℕ}
+use mathlib.Core.List.{List}
 use mathlib.Core.Path.{_≡_, sym, _∙_, ap}
 use Rattle.state.specs.declared.Call.{Call}
 use Rattle.state.specs.declared.Facility.{Facility}
@@ -12,9 +13,15 @@ use Rattle.answers.specs.Answers.{code}
 use Rattle.answers.specs.Outcomes.{numberOf, answersOf, objectNumberOf, setupNumber, setupIndex, writeNumber, writeLength}
 use Rattle.rules.specs.declared.Enforced.{Enforced}
 use Rattle.rules.specs.declared.Reading.{Reading}
+use Rattle.rules.specs.Lines.{callsOf}
+use Rattle.rules.specs.Matter.{holds}
+use Rattle.rules.specs.Setup.{readSetup}
+use Rattle.history.specs.Replayed.{replayed}
+use Rattle.hvozdalka.specs.declared.Held.{Held}
 use Rattle.hvozdalka.specs.declared.CallOutcome.{CallOutcome}
 use Rattle.hvozdalka.specs.declared.CallEnforced.{CallEnforced}
 use Rattle.hvozdalka.specs.declared.SetupReading.{SetupReading}
+use Rattle.hvozdalka.specs.declared.SetupNumbers.{SetupNumbers}
 use Rattle.hvozdalka.specs.declared.SetupWriting.{SetupWriting}
 use Rattle.hvozdalka.specs.declared.Summary.{Summary}
 
@@ -55,6 +62,23 @@ reading-is r q o e d =
     sym (ap (λ (x : SetupOutcome). record { facility = r .facility; number = setupNumber x; index = setupIndex x }) d)
     ∙ ap (λ (x : Reading). readingNumbers x) e
 
+-- the number and the index of a set-up alone
+abbrev pub setupNumbers : SetupOutcome → SetupNumbers
+setupNumbers o = record { number = setupNumber o; index = setupIndex o }
+
+-- the facility of a set-up after calls, whether object x holds the matter of c after them, and what the set-up came to
+abbrev pub replayNumbers : List ℕ → List ℕ → SetupReading
+replayNumbers s calls =
+    record { facility = replayed s calls; number = setupNumber ((readSetup s) .outcome); index = setupIndex ((readSetup s) .outcome) }
+
+abbrev pub heldNumbers : List ℕ → List ℕ → ℕ → ℕ → Held
+heldNumbers s calls x c =
+    record { holds = holds s (callsOf calls) x c; number = setupNumber ((readSetup s) .outcome); index = setupIndex ((readSetup s) .outcome) }
+
 -- how process p has object t open: 1 for reading, 2 for writing, 3 for both, else 0, whatever other bits the byte has
 unfoldable pub openMarks : Facility → ℕ → ℕ → ℕ
 openMarks f p t = addModes (opensOf f p t) 0
+
+-- the version of what C is given: one more with each change of the header that callers see
+abbrev pub version : ℕ
+version = 7

@@ -8,6 +8,7 @@ ghost use Rattle.in_place.specs.Stores.{storeObject, Becomes, storeIn};
 ghost use Rattle.in_place.specs.Fields.{Fields, countsPut, objectsPut, processesPut, usersPut};
 ghost use Rattle.questions.specs.Parts.{processNumber};
 ghost use Rattle.rules.specs.Calls.{after, query};
+ghost use Rattle.rules.specs.FileFlags.{effective, flagSource};
 ghost use Rattle.rules.specs.Modules.{flagsSeen, targetOf, viewOf};
 ghost use Rattle.rules.specs.Questions.{runsOf};
 ghost use Rattle.rules.specs.Requests.{actionOf};
@@ -15,9 +16,9 @@ ghost use Rattle.rules.specs.Setup.{writeSetup};
 ghost use Rattle.labels.specs.Labels.{label};
 ghost use Rattle.labels.specs.Decisions.{at};
 ghost use Rattle.opens.specs.Opens.{closeObject, closeProcess, copyProcess};
-ghost use Rattle.state.specs.State.{addObject, changed, cloned, counted, deleted, objectOf, objectsFrom, openBy, opened, opensOf, mostUsers};
+ghost use Rattle.state.specs.State.{addObject, changed, cloned, counted, deleted, objectOf, objectsFrom, objectsIn, openBy, opened, opensOf};
 ghost use Rattle.state.specs.State.{processOf, processesFrom, putMarks, putOpens, putProcess, putRefusals, refusalsOf, switchesOf, terminated};
-ghost use Rattle.state.specs.State.{userOf, usersFrom};
+ghost use Rattle.state.specs.State.{mostUsers, userOf, usersFrom};
 ghost use Rattle.state.specs.Shaped.{ObjectsShaped, ProcessesShaped, UsersShaped};
 use answers::Outcome;
 use answers::WriteOutcome;
@@ -734,4 +735,113 @@ pub fn process_of(s: &[u8; SIZE], p: u8) -> Process
     ensures { λ r. ⌜ r ≡ processOf (facilityAt (now (s .entry))) p ⌝ }
 {
     process_in(s, p)
+}
+
+// A user and an object by their numbers, and the marks of a process on an object.
+pub fn user_of(s: &[u8; SIZE], u: u8) -> User
+    ensures { λ r. ⌜ r ≡ userOf (facilityAt (now (s .entry))) u ⌝ }
+{
+    user_in(s, u)
+}
+
+pub fn object_of(s: &[u8; SIZE], t: u8) -> Object
+    ensures { λ r. ⌜ r ≡ objectOf (facilityAt (now (s .entry))) t ⌝ }
+{
+    object_in(s, t)
+}
+
+pub fn opens_of(s: &[u8; SIZE], p: u8, t: u8) -> u8
+    ensures { λ r. ⌜ r ≡ opensOf (facilityAt (now (s .entry))) p t ⌝ }
+{
+    opens_in(s, p, t)
+}
+
+// The switches, how many users there are, and how many objects were entered.
+pub fn switches_of(s: &[u8; SIZE]) -> Switches
+    ensures { λ r. ⌜ r ≡ switchesOf (facilityAt (now (s .entry))) ⌝ }
+{
+    switches_in(s)
+}
+
+fn users_in(s: &[u8]) -> u8
+    requires { ⌜ length (now s) ≡ wholeSize ⌝ }
+    ensures { λ r. ⌜ r ≡ facilityAt (now (s .entry)) .users ⌝ }
+{
+    byte_in(s, USERS, 1, 0)
+}
+
+fn entered_in(s: &[u8]) -> u8
+    requires { ⌜ length (now s) ≡ wholeSize ⌝ }
+    ensures { λ r. ⌜ r ≡ facilityAt (now (s .entry)) .entered ⌝ }
+{
+    byte_in(s, ENTERED, 1, 0)
+}
+
+pub fn users_of(s: &[u8; SIZE]) -> u8
+    ensures { λ r. ⌜ r ≡ facilityAt (now (s .entry)) .users ⌝ }
+{
+    users_in(s)
+}
+
+pub fn entered_of(s: &[u8; SIZE]) -> u8
+    ensures { λ r. ⌜ r ≡ facilityAt (now (s .entry)) .entered ⌝ }
+{
+    entered_in(s)
+}
+
+// The counter of a user; 0 for a number that is none.
+fn counter_in(s: &[u8], u: u8) -> u32
+    requires { ⌜ length (now s) ≡ wholeSize ⌝ }
+    ensures { λ r. ⌜ r ≡ refusalsOf (facilityAt (now (s .entry))) u ⌝ }
+{
+    if (u as usize) < state::USERS {
+        return refusals_in(s, u as u16);
+    }
+    0
+}
+
+pub fn counter_of(s: &[u8; SIZE], u: u8) -> u32
+    ensures { λ r. ⌜ r ≡ refusalsOf (facilityAt (now (s .entry))) u ⌝ }
+{
+    counter_in(s, u)
+}
+
+// The effective flags of an object, and the object whose own flag it is that an object has among them.
+fn effective_in(s: &[u8], t: u8) -> u8
+    requires { ⌜ length (now s) ≡ wholeSize ⌝ }
+    ensures { λ r. ⌜ r ≡ effective (objectsIn (facilityAt (now (s .entry)))) t ⌝ }
+{
+    let lives = lent(s, LIVES, OBJECT_COUNT);
+    let flags = lent(s, FLAGS, OBJECT_COUNT);
+    let parents = lent(s, PARENTS, OBJECT_COUNT);
+    flags::effective_at(lives, flags, parents, t as usize)
+}
+
+fn source_in(s: &[u8], t: u8, flag: u8) -> u8
+    requires { ⌜ length (now s) ≡ wholeSize ⌝ }
+    ensures { λ r. ⌜ r ≡ flagSource (objectsIn (facilityAt (now (s .entry)))) t flag ⌝ }
+{
+    let lives = lent(s, LIVES, OBJECT_COUNT);
+    let flags = lent(s, FLAGS, OBJECT_COUNT);
+    let parents = lent(s, PARENTS, OBJECT_COUNT);
+    flags::source_at(lives, flags, parents, t, flag)
+}
+
+pub fn effective_of(s: &[u8; SIZE], t: u8) -> u8
+    ensures { λ r. ⌜ r ≡ effective (objectsIn (facilityAt (now (s .entry)))) t ⌝ }
+{
+    effective_in(s, t)
+}
+
+pub fn source_of(s: &[u8; SIZE], t: u8, flag: u8) -> u8
+    ensures { λ r. ⌜ r ≡ flagSource (objectsIn (facilityAt (now (s .entry)))) t flag ⌝ }
+{
+    source_in(s, t, flag)
+}
+
+// What a call looks at.
+pub fn view_of(s: &[u8; SIZE], c: Call) -> View
+    ensures { λ r. ⌜ r ≡ viewOf (facilityAt (now (s .entry))) c ⌝ }
+{
+    view_in(s, c)
 }

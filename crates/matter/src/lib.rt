@@ -30,6 +30,7 @@ pub struct Members {
 }
 
 // Row x of `objects` is the words 2x and 2x + 1, the set that object x holds; so with `processes`. `next` is the next object number.
+#[repr(C)]
 pub struct Ledger {
     pub next: u8,
     pub kinds: [u8; OBJECTS],

@@ -1,33 +1,70 @@
-// The run program of document 01: reads `setup.bin` and calls from standard input, and prints a line for each call.
+// The run program of document 01: reads `setup.bin` and calls from standard input, and prints a line for each call. Each read is answered at once
+// with the lines of the calls that it completed. What cannot be read or written ends the program, and is told on standard error.
+ghost use Prim.Native.Nat.{_<_, _^_};
 use answers::SetupOutcome;
-use libc::STDIN_FILENO;
-use libc::STDOUT_FILENO;
+use console::Kept;
 use state::Facility;
 
-// More blocks than any input has: a proved loop has to end.
-const BLOCKS: u64 = 1 << 53;
+// More reads, and more calls, than there can be: a proved loop has to end.
+const READS: u64 = 1 << 53;
 
-// Reads a block of calls, and writes its lines; whether more is to be read. A block that is not full is the last.
-fn turn(f: &mut [u8; in_place::SIZE], first: u64, bytes: &mut [u8], out: &mut [u8]) -> bool {
-    let size = bytes.len();
-    let got = io::read_full(STDIN_FILENO, bytes);
-    let n = lines::put_block_in(f, first, &bytes[..got], out);
-    let is_written = io::write_all(STDOUT_FILENO, &out[..n]);
-    is_written & (got == size)
+const CALLS: u64 = 1 << 62;
+
+// After a read: how many calls are done, the bytes of the next one, and whether more is to be read.
+struct After {
+    done: u64,
+    kept: Kept,
+    more: bool,
 }
 
-// A block has 4,096 bytes, which are 1,024 calls of at most 49 bytes of text each: 65,536 bytes hold its lines.
+// Reads calls, and writes the lines of those that are whole; at the end of the input `short`, where bytes are left over.
+fn turn(
+    f: &mut [u8; in_place::SIZE],
+    done: u64,
+    bytes: &mut [u8],
+    kept: Kept,
+    out: &mut [u8],
+) -> After
+    requires { ⌜ done < 2 ^ 62 ⌝ }
+{
+    let input = console::read_calls(bytes, kept);
+    let lined = input.lined;
+    let rest = input.kept;
+    if input.failed {
+        return After {
+            done,
+            kept: rest,
+            more: false,
+        };
+    }
+    let n = lines::put_block_in(f, done + 1, &bytes[..lined], out);
+    let written = console::write_lines(&out[..n]);
+    After {
+        done: done + (lined as u64) / 4,
+        kept: rest,
+        more: written & input.more,
+    }
+}
+
+// The buffer has 4,096 bytes, which are 1,024 calls of at most 49 bytes of text each: 65,536 bytes hold their lines.
 fn run(start: Facility) {
     let mut bytes = io::buffer();
     let mut out = io::large_buffer();
     let mut f = [0u8; in_place::SIZE];
     in_place::store_in(start, &mut f);
+    let mut done: u64 = 0;
+    let mut kept = console::nothing_kept();
     let mut k: u64 = 0;
-    while k < BLOCKS {
-        let more = turn(&mut f, k * 1024 + 1, &mut bytes, &mut out);
-        if !more {
+    while k < READS {
+        if done >= CALLS {
             return;
         }
+        let t = turn(&mut f, done, &mut bytes, kept, &mut out);
+        if !t.more {
+            return;
+        }
+        done = t.done;
+        kept = t.kept;
         k += 1;
     }
 }
@@ -35,7 +72,7 @@ fn run(start: Facility) {
 fn refuse(number: u8, index: u16) {
     let mut out = io::buffer();
     let n = lines::put_setup(&mut out, number, index);
-    io::write_all(STDOUT_FILENO, &out[..n]);
+    console::write_lines(&out[..n]);
 }
 
 fn main() {

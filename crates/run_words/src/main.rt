@@ -3,30 +3,56 @@
 ghost use Prim.Native.Nat.{_≤_, _<_, _^_};
 ghost use lib.ListN.{length};
 use answers::SetupOutcome;
-use libc::STDIN_FILENO;
-use libc::STDOUT_FILENO;
+use console::Kept;
 use state::Facility;
 
-// More blocks than any input has: a proved loop has to end.
-const BLOCKS: u64 = 1 << 51;
+// More reads, and more calls, than there can be: a proved loop has to end.
+const READS: u64 = 1 << 53;
+
+const CALLS: u64 = 1 << 62;
 
 // Room for one more line, and more than that.
 const LINE: usize = 4096;
 
-// Writes the lines that are stored where there is no room for one more, and answers how many bytes of lines stay.
-fn write_full(lines: &[u8]) -> usize
-    ensures { λ r. ⌜ r ≤ length (now (lines .entry)) ⌝ }
+// How many bytes of lines stay, and whether those that do not could be written.
+struct Stored {
+    place: usize,
+    written: bool,
+}
+
+// After calls: the facility, and whether their lines could be written.
+struct Told {
+    facility: Facility,
+    written: bool,
+}
+
+// After a read: the facility, how many calls are done, the bytes of the next one, and whether more is to be read.
+struct After {
+    facility: Facility,
+    done: u64,
+    kept: Kept,
+    more: bool,
+}
+
+// Writes the lines that are stored where there is no room for one more.
+fn write_full(lines: &[u8]) -> Stored
+    ensures { λ r. ⌜ r .place ≤ length (now (lines .entry)) ⌝ }
 {
     let n = lines.len();
     if n < words::BUFFER - LINE {
-        return n;
+        return Stored {
+            place: n,
+            written: true,
+        };
     }
-    io::write_all(STDOUT_FILENO, lines);
-    0
+    Stored {
+        place: 0,
+        written: console::write_lines(lines),
+    }
 }
 
-// Prints the calls of a block, the first of which has this index, and answers the facility after them.
-fn tell_block(start: Facility, first: u64, calls: &[u8]) -> Facility
+// Prints the calls of a block, the first of which has this index, and stops where a line cannot be written.
+fn tell_block(start: Facility, first: u64, calls: &[u8]) -> Told
     requires { ⌜ first < 2 ^ 63 ⌝ }
 {
     let n = calls.len();
@@ -39,26 +65,59 @@ fn tell_block(start: Facility, first: u64, calls: &[u8]) -> Facility
         let index = first + (i as u64) / 4;
         i += 4;
         f = words::tell(f, index, c, &mut out, &mut place);
-        place = write_full(&out[..place]);
+        let stored = write_full(&out[..place]);
+        if !stored.written {
+            return Told {
+                facility: f,
+                written: false,
+            };
+        }
+        place = stored.place;
     }
-    io::write_all(STDOUT_FILENO, &out[..place]);
-    f
+    Told {
+        facility: f,
+        written: console::write_lines(&out[..place]),
+    }
 }
 
-// Reads blocks of calls until one is not full.
+// Reads calls, and prints those that are whole; at the end of the input `short`, where bytes are left over.
+fn turn(f: Facility, done: u64, bytes: &mut [u8], kept: Kept) -> After
+    requires { ⌜ done < 2 ^ 62 ⌝ }
+{
+    let input = console::read_calls(bytes, kept);
+    let lined = input.lined;
+    let rest = input.kept;
+    let told = tell_block(f, done + 1, &bytes[..lined]);
+    let facility = told.facility;
+    let mut written = told.written & !input.failed;
+    if written & (lined % 4 != 0) {
+        written = console::write_lines(b"short\n");
+    }
+    After {
+        facility,
+        done: done + (lined as u64) / 4,
+        kept: rest,
+        more: written & input.more,
+    }
+}
+
 fn run(start: Facility) {
     let mut bytes = io::buffer();
     let mut f = start;
+    let mut done: u64 = 0;
+    let mut kept = console::nothing_kept();
     let mut k: u64 = 0;
-    while k < BLOCKS {
-        let got = io::read_full(STDIN_FILENO, &mut bytes);
-        f = tell_block(f, k * 1024 + 1, &bytes[..got]);
-        if got % 4 != 0 {
-            io::write_all(STDOUT_FILENO, b"short\n");
-        }
-        if got < 4096 {
+    while k < READS {
+        if done >= CALLS {
             return;
         }
+        let t = turn(f, done, &mut bytes, kept);
+        if !t.more {
+            return;
+        }
+        f = t.facility;
+        done = t.done;
+        kept = t.kept;
         k += 1;
     }
 }
@@ -66,7 +125,7 @@ fn run(start: Facility) {
 fn refuse(number: u8, index: u16) {
     let mut out = io::large_buffer();
     let n = words::put_setup(&mut out, number, index as u64);
-    io::write_all(STDOUT_FILENO, &out[..n]);
+    console::write_lines(&out[..n]);
 }
 
 fn main() {

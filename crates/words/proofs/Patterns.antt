@@ -8,24 +8,38 @@ use lib.ListN.{length, drop, getD}
 use lib.Seq.{drop-cons, drop-length, length-sets}
 use native.Mathlib.Omega.{arith}
 use borrow.Author.Tests.{ne-eqb}
-use Rattle.labels.specs.Decisions.{at}
+use Rattle.labels.specs.Decisions.{_and_, _or_, at}
 use Rattle.labels.specs.Laws.Decisions.{by-test}
 use Rattle.text.specs.Stored.{Stored}
 use Rattle.text.specs.Laws.Stored.{then, as-text}
 use Rattle.words.specs.Patterns.{said, signs, filledFrom}
 
 -- a byte that is none of the signs
-pub said-itself : (x n : ℕ) → x ≢ 35 → x ≢ 36 → x ≢ 37 → x ≢ 38 → x ≢ 39 → x ≢ 34 → x ≢ 33 → x ≢ 42 → x ∷ [] ≡ said x n
+pub said-itself : (x n : ℕ) → x ≢ 35 → x ≢ 36 → x ≢ 37 → x ≢ 38 → x ≢ 39 → x ≢ 34 → x ≢ 33 → x ≢ 42 → x ≢ 64 → x ≢ 60 → x ≢ 62 → x ≢ 61 → x ≢ 63
+    → x ∷ [] ≡ said x n
 unfolding said
-said-itself x n a b c d e f g h =
-    rw (ne-eqb x 35 a, ne-eqb x 36 b, ne-eqb x 37 c, ne-eqb x 38 d, ne-eqb x 39 e, ne-eqb x 34 f, ne-eqb x 33 g, ne-eqb x 42 h)
+said-itself x n a b c d e f g h i j k l m =
+    rw (
+      ne-eqb x 35 a,
+      ne-eqb x 36 b,
+      ne-eqb x 37 c,
+      ne-eqb x 38 d,
+      ne-eqb x 39 e,
+      ne-eqb x 34 f,
+      ne-eqb x 33 g,
+      ne-eqb x 42 h,
+      ne-eqb x 64 i,
+      ne-eqb x 60 j,
+      ne-eqb x 62 k,
+      ne-eqb x 61 l,
+      ne-eqb x 63 m,
+    )
 
 pub at-most-one : (x : ℕ) → signs x ≤ 1
 at-most-one x =
     by-test (eqb x 42)
     (λ s. rw s (omega arith))
-    (λ s. by-test (ltb 32 x)
-    (λ t. by-test (ltb x 40) (λ u. rw (s, t, u) (omega arith)) (λ u. rw (s, t, u) (omega arith))) (λ t. rw (s, t) (omega arith)))
+    (λ s. by-test ((ltb 32 x and ltb x 40) or (ltb 59 x and ltb x 65)) (λ t. rw (s, t) (omega arith)) (λ t. rw (s, t) (omega arith)))
 
 -- with the buffer o and the place p as they are, the text xs makes the whole text ys stored at q of the buffer l
 abbrev pub Leaves : List ℕ → ℕ → List ℕ → List ℕ → ℕ → List ℕ → Type 0

@@ -7,15 +7,16 @@ use mathlib.Core.List.{List, [], _∷_, _++_}
 use lib.Dec.{eqb, ltb}
 use Rattle.rules.specs.Lines.{decimal, decimalIn}
 use Rattle.rules.specs.Text.{ascii}
-use Rattle.labels.specs.Decisions.{at}
-use Rattle.words.specs.Words.{kindWord, answerWord, requestWord, flagWord, numberWord, levelWord, setWord}
+use Rattle.labels.specs.Decisions.{_and_, _or_, at}
+use Rattle.names.specs.Words.{kindWord, answerWord, requestWord, flagWord, numberWord, levelWord, setWord, roleWord, trustWord, automaticWord}
+use Rattle.names.specs.Words.{categoryWord, dataTypeWord}
 
 infix 40 _is_
 abbrev _is_ : ℕ → String → Bool
 x is sign = eqb x (at (ascii sign) 0)
 
 -- a number at a sign: # in decimal, $ as a level, % as a kind, & as a request, ' as an answer, " as a flag, ! by what it says, * as a set of
--- categories; any other byte is itself
+-- categories, @ as a role, < by whether it is trusted, > by whether it is automatic, = as a category, ? as a data type; any other byte is itself
 unfoldable pub said : ℕ → ℕ → List ℕ
 said x n =
     cond (x is "#") (decimal n)
@@ -25,11 +26,14 @@ said x n =
     (cond (x is "'") (answerWord n)
     (cond (x is "\"") (flagWord n)
     (cond (x is "!") (numberWord n)
-    (cond (x is "*") (setWord n) (x ∷ []))))))))
+    (cond (x is "*") (setWord n)
+    (cond (x is "@") (roleWord n)
+    (cond (x is "<") (trustWord n)
+    (cond (x is ">") (automaticWord n) (cond (x is "=") (categoryWord n) (cond (x is "?") (dataTypeWord n) (x ∷ [])))))))))))))
 
--- how many numbers a byte takes: one where it is a sign, that is one of ! to ' (33 to 39), or * (42)
+-- how many numbers a byte takes: one where it is a sign, that is one of ! to ' (33 to 39), * (42), or one of < to @ (60 to 64)
 abbrev pub signs : ℕ → ℕ
-signs x = cond (eqb x 42) 1 (cond (ltb 32 x) (cond (ltb x 40) 1 0) 0)
+signs x = cond (eqb x 42) 1 (cond ((ltb 32 x and ltb x 40) or (ltb 59 x and ltb x 65)) 1 0)
 
 -- a pattern whose signs stand for the numbers from the i-th on
 unfoldable pub filledFrom : ℕ → List ℕ → List ℕ → List ℕ
@@ -40,5 +44,9 @@ abbrev pub filled : List ℕ → List ℕ → List ℕ
 filled xs ns = filledFrom 0 xs ns
 
 example : filled (ascii "object # (%, level $)") (17 ∷ 0 ∷ 255 ∷ []) ≡ ascii "object 17 (file, level unset)"
-unfolding decimalIn kindWord levelWord said filledFrom
+unfolding decimalIn kindWord levelWord said filledFrom _and_ _or_
 example = refl
+
+qualities : filled (ascii "@ < > = ?#") (1 ∷ 1 ∷ 0 ∷ 255 ∷ 1 ∷ 7 ∷ []) ≡ ascii "security officer trusted not automatic unset security information7"
+unfolding decimalIn roleWord trustWord automaticWord categoryWord dataTypeWord said filledFrom _and_ _or_
+qualities = refl

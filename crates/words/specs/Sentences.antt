@@ -5,37 +5,41 @@ use Prim.Native.Nat.{ℕ}
 use mathlib.Core.Path.{_≡_, refl}
 use mathlib.Core.Bool.{cond}
 use mathlib.Core.List.{List, [], _∷_, _++_}
+use lib.Dec.{eqb}
 use Rattle.state.specs.declared.Call.{Call}
 use Rattle.state.specs.declared.Facility.{Facility}
 use Rattle.answers.specs.declared.Outcome.{Outcome}
 use Rattle.state.specs.declared.Process.{Process}
 use Rattle.state.specs.declared.User.{User}
-use Rattle.labels.specs.Decisions.{on}
-use Rattle.answers.specs.declared.Answer.{Answer}
-use Rattle.answers.specs.Answers.{code, isNotGranted}
-use Rattle.answers.specs.Outcomes.{numberOf, answersOf, denies}
-use Rattle.state.specs.State.{objectsIn, refusalsOf}
+use Rattle.labels.specs.Decisions.{_and_, _or_, on}
+use Rattle.answers.specs.Answers.{code}
+use Rattle.answers.specs.Outcomes.{noObject, numberOf, answersOf, objectNumberOf, denies}
+use Rattle.state.specs.State.{refusalsOf}
 use Rattle.rules.specs.declared.Action.{Action}
 use Rattle.rules.specs.declared.Action.the-variants.{Login, Clone, SendSignal, SetLevel, Terminate, Create, OnObject, Unknown}
 use Rattle.rules.specs.declared.Target.{Target}
 use Rattle.rules.specs.declared.View.{View}
-use Rattle.rules.specs.Requests.{actionOf, inDirectory, isSendSignal}
-use Rattle.rules.specs.FileFlags.{readOnly, noExecute, noDelete, searchOnly, addInherited, has, forbidding, flagSource}
-use Rattle.rules.specs.Modules.{viewOf, classIn}
+use Rattle.rules.specs.Requests.{actionOf, inDirectory, isClone, isSendSignal}
+use Rattle.rules.specs.FileFlags.{readOnly, noExecute, noDelete, searchOnly, addInherited, has}
+use Rattle.rules.specs.Modules.{viewOf}
+use Rattle.rules.specs.Questions.{number}
 use Rattle.rules.specs.Calls.{query, after, ownerIn}
 use Rattle.rules.specs.Histories.{movesBound}
 use Rattle.rules.specs.Lines.{decimal, lineFeed}
 use Rattle.rules.specs.Text.{ascii}
-use Rattle.words.specs.Words.{flagWord}
+use Rattle.reasons.specs.Reasons.{failedBy}
+use Rattle.names.specs.Words.{flagWord}
+use Rattle.names.specs.Reasons.{failedText, sourceOf}
 use Rattle.words.specs.Patterns.{filled, filledFrom, said}
 
--- a process: its owner with the clearance, its current level and its marks, and how often its level moved by itself, of at most how many times
+-- a process: its owner with the role, whether trusted, and the clearance; its current level and its marks, whether automatic, and how often its level
+-- moved by itself, of at most how many times
 abbrev pub processText : Process → User → List ℕ
 processText r u =
     cond (on (r .running))
-    (filled (ascii "user #, clearance #*, current #*, marks #* to #*, moved # times of at most ")
-    (r .owner ∷ u .clearance .level ∷ u .clearance .set ∷ r .current .level ∷ r .current .set ∷ r .readmark .level ∷ r .readmark .set
-    ∷ r .writemark .level ∷ r .writemark .set ∷ r .moves ∷ [])
+    (filled (ascii "user #, @, <, clearance #*, current #*, marks #* to #*, >, moved # times of at most ")
+    (r .owner ∷ u .role ∷ u .trusted ∷ u .clearance .level ∷ u .clearance .set ∷ r .current .level ∷ r .current .set ∷ r .readmark .level
+    ∷ r .readmark .set ∷ r .writemark .level ∷ r .writemark .set ∷ r .automatic ∷ r .moves ∷ [])
     ++ decimal (movesBound (u .clearance)))
     (ascii "not running")
 
@@ -47,14 +51,16 @@ unfoldable pub flagsText : ℕ → List ℕ
 flagsText v = flagText readOnly v ++ flagText noExecute v ++ flagText noDelete v ++ flagText searchOnly v ++ flagText addInherited v
 
 example : flagsText 129 ≡ ascii ", read-only, add-inherited"
-unfolding has flagWord said filledFrom flagText flagsText
+unfolding has flagWord said filledFrom flagText flagsText _or_ _and_
 example = refl
 
--- an object: its number, and its kind, its level and the flags that FF sees where it is live
+-- an object: its number, and where it is live its kind, its level, the category that FC looks at, its data type, and the flags that FF sees
 abbrev pub objectText : ℕ → Target → List ℕ
 objectText t x =
     cond (on (x .object .live))
-    (filled (ascii " object # (%, level $*") (t ∷ x .object .kind ∷ x .object .label .level ∷ x .object .label .set ∷ []) ++ flagsText (x .flags) ++ ascii ")")
+    (filled (ascii " object # (%, level $*, category =, data type ?")
+    (t ∷ x .object .kind ∷ x .object .label .level ∷ x .object .label .set ∷ x .object .category ∷ x .object .datatype ∷ [])
+    ++ flagsText (x .flags) ++ ascii ")")
     (filled (ascii " object # (not live)") (t ∷ []))
 
 -- what a create makes, and in which directory
@@ -69,7 +75,7 @@ receiverText t x = filled (ascii " process # (") (t ∷ []) ++ processText (x .r
 -- what a request is about
 abbrev pub targetText : Action → Call → Target → List ℕ
 targetText Login c x = filled (ascii " user #") (c .extra ∷ [])
-targetText Clone c x = filled (ascii " process #") (c .target ∷ [])
+targetText Clone c x = filled (ascii " to process #, the clone of process #") (c .target ∷ c .process ∷ [])
 targetText SendSignal c x = receiverText (c .target) x
 targetText SetLevel c x = filled (ascii " level #*") (c .extra ∷ c .target ∷ [])
 targetText Terminate c x = []
@@ -82,22 +88,26 @@ abbrev pub beforeText : ℕ → Call → View → List ℕ
 beforeText i c v =
     decimal i ++ filled (ascii " process # (") (c .process ∷ []) ++ processText (v .caller) (v .owner) ++ filled (ascii "): &") (c .request ∷ [])
 
--- the flag by which FF does not grant, and the object that it comes from
-abbrev pub reasonText : Answer → Reason → List ℕ
-reasonText a r = cond (isNotGranted a) (filled (ascii " by \" of object #") (r .flag ∷ r .source ∷ [])) []
+-- the object that a create made
+abbrev pub madeText : ℕ → List ℕ
+madeText n = cond (eqb n noObject) [] (filled (ascii ", object #") (n ∷ []))
 
 -- what the modules answer, and the number with what it says
-abbrev pub outcomeText : Outcome → Reason → List ℕ
-outcomeText o r =
+abbrev pub answersText : Outcome → List ℕ
+answersText o =
     let a = answersOf o in
-    filled (ascii ": MAC ', FC ', SIM ', FF '") (code (a .mac) ∷ code (a .fc) ∷ code (a .sim) ∷ code (a .ff) ∷ [])
-    ++ reasonText (a .ff) r
-    ++ filled (ascii ", combined ': # !; then ") (code (a .combined) ∷ numberOf o ∷ numberOf o ∷ [])
+    filled (ascii ": MAC ', FC ', SIM ', FF ', combined ': # !")
+    (code (a .mac) ∷ code (a .fc) ∷ code (a .sim) ∷ code (a .ff) ∷ code (a .combined) ∷ numberOf o ∷ numberOf o ∷ [])
 
--- after a signal, its receiver
+-- the same, the conditions that failed, and the object that was made
+abbrev pub outcomeText : Outcome → Reason → List ℕ
+outcomeText o r = answersText o ++ failedText (r .failed) (r .source) ++ madeText (objectNumberOf o) ++ ascii "; then "
+
+-- after a signal its receiver, after a cloning the clone
 abbrev pub laterText : Call → Target → List ℕ
 laterText c x =
-    cond (isSendSignal (actionOf (c .request))) (filled (ascii "; process # then ") (c .target ∷ []) ++ processText (x .receiver) (x .owner)) []
+    cond (isSendSignal (actionOf (c .request)) or isClone (actionOf (c .request)))
+    (filled (ascii "; process # then ") (c .target ∷ []) ++ processText (x .receiver) (x .owner)) []
 
 -- after a denial, how many refusals of the caller's owner are counted
 abbrev pub countText : Outcome → View → ℕ → List ℕ
@@ -114,21 +124,19 @@ sentenceText t =
     ++ countText (t .outcome) (t .before) (t .count)
     ++ (lineFeed ∷ [])
 
--- the first flag that forbids call c, which looks at v, and the object of f whose own flag it is
-unfoldable pub reasonIn : Facility → View → Call → Reason
-reasonIn f v c =
-    let m = forbidding (v .target .flags) (c .request) (classIn v c) (v .target .object .kind) in
-    record { flag = m; source = flagSource (objectsIn f) (c .target) m }
+-- what failed of call c with number n, which looks at v, and the object of f that the flag comes from which forbids it
+unfoldable pub reasonIn : Facility → ℕ → View → Call → Reason
+reasonIn f n v c = record { failed = failedBy n v c; source = sourceOf f c (failedBy n v c .flag) }
 
--- what is told of call c, the i-th, enforced on f: what it looks at, why FF does not grant it, what it comes to, what it would look at after it,
--- and the counter of the caller's owner then
+-- what is told of call c, the i-th, enforced on f: what it looks at, what failed, what it comes to, what it would look at after it, and the counter of the
+-- caller's owner then
 unfoldable pub told : ℕ → Facility → Call → Told
 told i f c =
     record {
       index = i;
       call = c;
       before = viewOf f c;
-      reason = reasonIn f (viewOf f c) c;
+      reason = reasonIn f (number f c) (viewOf f c) c;
       outcome = query f c;
       later = viewOf (after f c) c;
       count = refusalsOf (after f c) (ownerIn f c);

@@ -1,20 +1,16 @@
 // A run in words. Words stand in tables, a row for each, with blanks behind them; texts with numbers in them are patterns
 // (specs/Patterns.antt). What does not fit into the lent buffer is cut off.
-ghost use Prim.Native.Nat.{_+_, _*_, _≤_, min};
 ghost use mathlib.Core.List.{[], _∷_};
 ghost use mathlib.Core.Path.{_≡_};
-ghost use lib.ListN.{length};
 ghost use Rattle.io.specs.Counts.{Counts};
 ghost use Rattle.rules.specs.Calls.{after};
 ghost use Rattle.rules.specs.Requests.{actionOf};
 ghost use Rattle.text.specs.Stored.{Stored};
 ghost use Rattle.words.specs.Patterns.{filled, said, signs};
-ghost use Rattle.words.specs.Sentences.{beforeText, countText, createText, flagText, flagsText, laterText, objectText, outcomeText};
-ghost use Rattle.words.specs.Sentences.{processText, reasonIn, reasonText, receiverText, sentence, sentenceText, setupSentence, targetText};
-ghost use Rattle.words.specs.Tables.{sizeIn, wordAt};
-ghost use Rattle.words.specs.Words.{answerWord, flagWord, kindWord, letterWord, levelWord, numberWord, requestWord, setWord};
-use answers::Answer;
+ghost use Rattle.words.specs.Sentences.{answersText, beforeText, countText, createText, flagText, flagsText, laterText, madeText, objectText};
+ghost use Rattle.words.specs.Sentences.{outcomeText, processText, reasonIn, receiverText, sentence, sentenceText, setupSentence, targetText};
 use answers::Outcome;
+use reasons::Failed;
 use rules::Action;
 use rules::View;
 use state::Call;
@@ -25,9 +21,9 @@ use state::User;
 // How many bytes a buffer for lines has. An array and not a slice: a function that hands it on is then checked in two thirds of the time.
 pub const BUFFER: usize = 65536;
 
-// The first flag that forbids a request, and the object whose own flag it is.
+// The conditions that failed, and the object that the flag comes from which forbids the request.
 struct Reason {
-    flag: u8,
+    failed: Failed,
     source: u8,
 }
 
@@ -42,192 +38,24 @@ struct Told {
     count: u32,
 }
 
-// How many bytes of a row are left without the blanks behind them.
-fn size(row: &[u8]) -> usize
-    ensures { λ r. ⌜ r ≡ sizeIn (now (row .entry)) (length (now (row .entry))) ⌝ }
-{
-    let mut n = row.len();
-    while 0 < n {
-        if row[n - 1] != b' ' {
-            return n;
-        }
-        n -= 1;
-    }
-    0
-}
-
-// The word of a number in a table of rows of one width; the last row is for numbers past the others.
-fn put_word(
-    out: &mut [u8; BUFFER],
-    place: usize,
-    table: &[u8],
-    width: usize,
-    last: usize,
-    n: u8,
-) -> usize
-    requires { ⌜ (last * width) + width ≤ length (now table) ⌝ }
-    ensures { λ r. ⌜ Stored (now (out .entry)) place (wordAt (now (table .entry)) width (min n last)) (now (out .exit)) r ⌝ }
-{
-    let from = labels::least(n as usize, last) * width;
-    let row = &table[from..from + width];
-    let size = size(row);
-    text::put_text(out, place, &row[..size])
-}
-
-// The word for a kind of object.
-fn put_kind(out: &mut [u8; BUFFER], place: usize, kind: u8) -> usize
-    ensures { λ r. ⌜ Stored (now (out .entry)) place (kindWord kind) (now (out .exit)) r ⌝ }
-{
-    let words = b"\
-        file        \
-        directory   \
-        channel     \
-        control data\
-        no kind     ";
-    put_word(out, place, words, 12, 4, kind)
-}
-
-// The word for an answer.
-fn put_answer(out: &mut [u8; BUFFER], place: usize, answer: u8) -> usize
-    ensures { λ r. ⌜ Stored (now (out .entry)) place (answerWord answer) (now (out .exit)) r ⌝ }
-{
-    let words = b"\
-        not cared  \
-        granted    \
-        not granted\
-        undefined  \
-        no answer  ";
-    put_word(out, place, words, 11, 4, answer)
-}
-
-// The word for a request.
-fn put_request(out: &mut [u8; BUFFER], place: usize, request: u8) -> usize
-    ensures { λ r. ⌜ Stored (now (out .entry)) place (requestWord request) (now (out .exit)) r ⌝ }
-{
-    let words = b"\
-        alter                  \
-        change-owner           \
-        clone                  \
-        close                  \
-        create                 \
-        delete                 \
-        delete-data            \
-        execute                \
-        get-permissions-data   \
-        get-status-data        \
-        modify-access-data     \
-        modify-permissions-data\
-        read                   \
-        read-open              \
-        read&write-open        \
-        search                 \
-        send-signal            \
-        set-level              \
-        terminate              \
-        write                  \
-        write-open             \
-        login                  \
-        no request             ";
-    put_word(out, place, words, 23, 22, request)
-}
-
-// The word for a flag.
-fn put_flag_word(out: &mut [u8; BUFFER], place: usize, flag: u8) -> usize
-    ensures { λ r. ⌜ Stored (now (out .entry)) place (flagWord flag) (now (out .exit)) r ⌝ }
-{
-    match flag {
-        flags::READ_ONLY => text::put_text(out, place, b"read-only"),
-        flags::NO_EXECUTE => text::put_text(out, place, b"no-execute"),
-        flags::NO_DELETE => text::put_text(out, place, b"no-delete"),
-        flags::SEARCH_ONLY => text::put_text(out, place, b"search-only"),
-        flags::ADD_INHERITED => text::put_text(out, place, b"add-inherited"),
-        _ => text::put_text(out, place, b"no flag"),
-    }
-}
-
-// What a number says.
-fn put_number(out: &mut [u8; BUFFER], place: usize, number: u8) -> usize
-    ensures { λ r. ⌜ Stored (now (out .entry)) place (numberWord number) (now (out .exit)) r ⌝ }
-{
-    let words = b"\
-        accepted                       \
-        no such request                \
-        no such process number         \
-        process does not run           \
-        process number is not free     \
-        no such user                   \
-        object is not live             \
-        object's kind lacks the request\
-        no such kind                   \
-        object is not open in that mode\
-        128 objects are entered        \
-        no such level                  \
-        not granted                    \
-        undefined                      \
-        length is not allowed          \
-        kind does not fit the place    \
-        too many users or objects      \
-        a byte is not allowed          \
-        buffer is too short            \
-        parent is no earlier directory \
-        no number                      ";
-    put_word(out, place, words, 31, 20, number)
-}
-
-// An object's level, or that it is unset.
-fn put_level(out: &mut [u8; BUFFER], place: usize, level: u8) -> usize
-    ensures { λ r. ⌜ Stored (now (out .entry)) place (levelWord level) (now (out .exit)) r ⌝ }
-{
-    if level == 255 {
-        return text::put_text(out, place, b"unset");
-    }
-    text::put_small(out, place, level)
-}
-
-// A category's letter, where the category is in the set.
-fn put_letter(out: &mut [u8; BUFFER], place: usize, category: u8, letter: &[u8], s: u8) -> usize
-    ensures { λ r. ⌜ Stored (now (out .entry)) place (letterWord category (now (letter .entry)) s) (now (out .exit)) r ⌝ }
-{
-    if flags::has(category, s) {
-        return text::put_text(out, place, letter);
-    }
-    text::put_text(out, place, b"")
-}
-
-// The letters of a set of categories, with a blank before them, or that all are in it.
-fn put_set(out: &mut [u8; BUFFER], place: usize, s: u8) -> usize
-    ensures { λ r. ⌜ Stored (now (out .entry)) place (setWord s) (now (out .exit)) r ⌝ }
-{
-    if s == 0 {
-        return text::put_text(out, place, b"");
-    }
-    if s == labels::ALL_CATEGORIES {
-        return text::put_text(out, place, b" all");
-    }
-    let mut p = text::put_text(out, place, b" ");
-    p = put_letter(out, p, 1, b"a", s);
-    p = put_letter(out, p, 2, b"b", s);
-    p = put_letter(out, p, 4, b"c", s);
-    p = put_letter(out, p, 8, b"d", s);
-    p = put_letter(out, p, 16, b"e", s);
-    p = put_letter(out, p, 32, b"f", s);
-    p = put_letter(out, p, 64, b"g", s);
-    put_letter(out, p, 128, b"h", s)
-}
-
 // A byte of a pattern: a sign is the number n, said in the sign's way.
 fn put_said(out: &mut [u8; BUFFER], place: usize, x: u8, n: u8) -> usize
     ensures { λ r. ⌜ Stored (now (out .entry)) place (said x n) (now (out .exit)) r ⌝ }
 {
     match x {
         b'#' => text::put_small(out, place, n),
-        b'$' => put_level(out, place, n),
-        b'%' => put_kind(out, place, n),
-        b'&' => put_request(out, place, n),
-        b'\'' => put_answer(out, place, n),
-        b'"' => put_flag_word(out, place, n),
-        b'!' => put_number(out, place, n),
-        b'*' => put_set(out, place, n),
+        b'$' => names::put_level(out, place, n),
+        b'%' => names::put_kind(out, place, n),
+        b'&' => names::put_request(out, place, n),
+        b'\'' => names::put_answer(out, place, n),
+        b'"' => names::put_flag_word(out, place, n),
+        b'!' => names::put_number(out, place, n),
+        b'*' => names::put_set(out, place, n),
+        b'@' => names::put_role(out, place, n),
+        b'<' => names::put_trust(out, place, n),
+        b'>' => names::put_automatic(out, place, n),
+        b'=' => names::put_category(out, place, n),
+        b'?' => names::put_data_type(out, place, n),
         _ => text::put_text(out, place, &[x]),
     }
 }
@@ -239,10 +67,10 @@ fn signs(x: u8) -> usize
     if x == b'*' {
         return 1;
     }
-    if x > 32 {
-        if x < 40 {
-            return 1;
-        }
+    let low = (32 < x) & (x < 40);
+    let high = (59 < x) & (x < 65);
+    if low | high {
+        return 1;
     }
     0
 }
@@ -271,13 +99,15 @@ fn put_one(out: &mut [u8; BUFFER], place: usize, pattern: &[u8], n: u8) -> usize
     put_filled(out, place, pattern, &[n])
 }
 
-// A process: its owner with the clearance, its current level and its marks.
+// A process: its owner with role, trust and clearance, its current level and its marks, whether automatic, and its moves.
 fn put_process(out: &mut [u8; BUFFER], place: usize, r: Process, u: User) -> usize
     ensures { λ x. ⌜ Stored (now (out .entry)) place (processText r u) (now (out .exit)) x ⌝ }
 {
     if r.running == 1 {
         let numbers = [
             r.owner,
+            u.role,
+            u.trusted,
             u.clearance.level,
             u.clearance.set,
             r.current.level,
@@ -286,12 +116,13 @@ fn put_process(out: &mut [u8; BUFFER], place: usize, r: Process, u: User) -> usi
             r.readmark.set,
             r.writemark.level,
             r.writemark.set,
+            r.automatic,
             r.moves,
         ];
         let p = put_filled(
             out,
             place,
-            b"user #, clearance #*, current #*, marks #* to #*, moved # times of at most ",
+            b"user #, @, <, clearance #*, current #*, marks #* to #*, >, moved # times of at most ",
             &numbers,
         );
         return text::put_decimal(out, p, u.clearance.most_moves() as u64);
@@ -320,7 +151,7 @@ fn put_flags(out: &mut [u8; BUFFER], place: usize, v: u8) -> usize
     put_flag(out, p, flags::ADD_INHERITED, v)
 }
 
-// The object: its number, and its kind, its level and the flags that FF sees where it is live.
+// The object: its number, and where it is live its kind, level, category, data type and the flags that FF sees.
 fn put_object(out: &mut [u8; BUFFER], place: usize, c: Call, v: View) -> usize
     ensures { λ x. ⌜ Stored (now (out .entry)) place (objectText (c .target) (v .target)) (now (out .exit)) x ⌝ }
 {
@@ -330,8 +161,15 @@ fn put_object(out: &mut [u8; BUFFER], place: usize, c: Call, v: View) -> usize
             v.target.object.kind,
             v.target.object.label.level,
             v.target.object.label.set,
+            v.target.object.category,
+            v.target.object.datatype,
         ];
-        let mut p = put_filled(out, place, b" object # (%, level $*", &numbers);
+        let mut p = put_filled(
+            out,
+            place,
+            b" object # (%, level $*, category =, data type ?",
+            &numbers,
+        );
         p = put_flags(out, p, v.target.flags);
         return text::put_text(out, p, b")");
     }
@@ -365,7 +203,12 @@ fn put_target(out: &mut [u8; BUFFER], place: usize, c: Call, v: View) -> usize
     let k = requests::action_of(c.request);
     match k {
         Action::Login => put_one(out, place, b" user #", c.extra),
-        Action::Clone => put_one(out, place, b" process #", c.target),
+        Action::Clone => put_filled(
+            out,
+            place,
+            b" to process #, the clone of process #",
+            &[c.target, c.process],
+        ),
         Action::SendSignal => put_receiver(out, place, c, v),
         Action::SetLevel => put_filled(out, place, b" level #*", &[c.extra, c.target]),
         Action::Terminate => put_one(out, place, b"", 0),
@@ -385,19 +228,19 @@ fn put_before(out: &mut [u8; BUFFER], place: usize, index: u64, c: Call, v: View
     put_one(out, p, b"): &", c.request)
 }
 
-// The flag by which FF does not grant, and the object that it comes from.
-fn put_reason(out: &mut [u8; BUFFER], place: usize, ff: Answer, r: Reason) -> usize
-    ensures { λ x. ⌜ Stored (now (out .entry)) place (reasonText ff r) (now (out .exit)) x ⌝ }
+// The object that a create made.
+fn put_made(out: &mut [u8; BUFFER], place: usize, n: u8) -> usize
+    ensures { λ x. ⌜ Stored (now (out .entry)) place (madeText n) (now (out .exit)) x ⌝ }
 {
-    if ff.is_not_granted() {
-        return put_filled(out, place, b" by \" of object #", &[r.flag, r.source]);
+    if n == answers::NO_OBJECT {
+        return text::put_text(out, place, b"");
     }
-    text::put_text(out, place, b"")
+    put_one(out, place, b", object #", n)
 }
 
 // What the modules answer, and the number with what it says.
-fn put_outcome(out: &mut [u8; BUFFER], place: usize, o: Outcome, r: Reason) -> usize
-    ensures { λ x. ⌜ Stored (now (out .entry)) place (outcomeText o r) (now (out .exit)) x ⌝ }
+fn put_answers(out: &mut [u8; BUFFER], place: usize, o: Outcome) -> usize
+    ensures { λ x. ⌜ Stored (now (out .entry)) place (answersText o) (now (out .exit)) x ⌝ }
 {
     let n = o.number();
     let a = o.answers();
@@ -406,18 +249,38 @@ fn put_outcome(out: &mut [u8; BUFFER], place: usize, o: Outcome, r: Reason) -> u
     let sim = a.sim;
     let ff = a.ff;
     let combined = a.combined;
-    let each = [mac.code(), fc.code(), sim.code(), ff.code()];
-    let all = [combined.code(), n, n];
-    let mut p = put_filled(out, place, b": MAC ', FC ', SIM ', FF '", &each);
-    p = put_reason(out, p, ff, r);
-    put_filled(out, p, b", combined ': # !; then ", &all)
+    let all = [
+        mac.code(),
+        fc.code(),
+        sim.code(),
+        ff.code(),
+        combined.code(),
+        n,
+        n,
+    ];
+    put_filled(
+        out,
+        place,
+        b": MAC ', FC ', SIM ', FF ', combined ': # !",
+        &all,
+    )
 }
 
-// After a signal, its receiver.
+// The same, the conditions that failed, and the object that was made.
+fn put_outcome(out: &mut [u8; BUFFER], place: usize, o: Outcome, r: Reason) -> usize
+    ensures { λ x. ⌜ Stored (now (out .entry)) place (outcomeText o r) (now (out .exit)) x ⌝ }
+{
+    let mut p = put_answers(out, place, o);
+    p = names::put_failed(out, p, r.failed, r.source);
+    p = put_made(out, p, o.object());
+    text::put_text(out, p, b"; then ")
+}
+
+// After a signal its receiver, after a cloning the clone.
 fn put_later(out: &mut [u8; BUFFER], place: usize, c: Call, v: View) -> usize
     ensures { λ x. ⌜ Stored (now (out .entry)) place (laterText c (v .target)) (now (out .exit)) x ⌝ }
 {
-    if requests::is_send_signal(c.request) {
+    if requests::is_send_signal(c.request) | requests::is_clone(c.request) {
         let p = put_one(out, place, b"; process # then ", c.target);
         return put_process(out, p, v.target.receiver, v.target.owner);
     }
@@ -449,14 +312,13 @@ fn put_sentence(out: &mut [u8; BUFFER], place: usize, t: Told) -> usize
     text::put_text(out, p, b"\n")
 }
 
-// Why FF does not grant a call, which looks at v.
-fn reason_in(f: Facility, v: View, c: Call) -> Reason
-    ensures { λ r. ⌜ r ≡ reasonIn f v c ⌝ }
+// What failed of a call with number n, which looks at v, and the object that the flag comes from.
+fn reason_in(f: Facility, n: u8, v: View, c: Call) -> Reason
+    ensures { λ r. ⌜ r ≡ reasonIn f n v c ⌝ }
 {
-    let k = modules::class_in(v, c);
-    let flag = flags::forbidding(v.target.flags, c.request, k, v.target.object.kind);
-    let source = flags::source_at(&f.lives, &f.flags, &f.parents, c.target, flag);
-    Reason { flag, source }
+    let failed = reasons::failed_by(n, v, c);
+    let source = flags::source_at(&f.lives, &f.flags, &f.parents, c.target, failed.flag);
+    Reason { failed, source }
 }
 
 // Enforces a call, stores its line, and answers the facility after it. The place is moved behind the line.
@@ -466,10 +328,10 @@ pub fn tell(f: Facility, index: u64, c: Call, out: &mut [u8; BUFFER], place: &mu
     ensures { λ r. ⌜ Counts (now (place .exit)) (now (out .exit)) ⌝ }
 {
     let before = calls::view_of(f, c);
-    let reason = reason_in(f, before, c);
     let enforced = calls::enforce(f, c);
     let facility = enforced.facility;
     let outcome = enforced.outcome;
+    let reason = reason_in(f, outcome.number(), before, c);
     let later = calls::view_of(facility, c);
     let count = labels::word_at(&facility.refusals, before.caller.owner as usize);
     let t = Told {

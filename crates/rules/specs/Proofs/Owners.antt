@@ -7,10 +7,10 @@ use mathlib.Core.List.{List, [], _∷_}
 use native.Mathlib.Omega.{arith}
 use borrow.Author.Tests.{ltb-true, eqb-true, eq-eqb, ne-eqb}
 use Rattle.rules.specs.Types.{Answer, NotCared, Call, Process, Facility}
-use Rattle.labels.specs.Decisions.{_and_, _or_, ask, on}
+use Rattle.labels.specs.Decisions.{_and_, on}
 use Rattle.labels.specs.Laws.Decisions.{and-l, clash, by-test}
 use Rattle.answers.specs.Outcomes.{denies, answersFrom}
-use Rattle.answers.specs.Answers.{isNotGranted, isUndefined}
+use Rattle.answers.specs.Answers.{passes}
 use Rattle.state.specs.State.{mostUsers, processOf, freshProcess, noProcess}
 use Rattle.rules.specs.Effects.{effectBy}
 use Rattle.rules.specs.Calls.{ownerIn, accepted, after}
@@ -18,8 +18,8 @@ use Rattle.rules.specs.Requests.{Action, Login, Clone, SendSignal, SetLe
 use Rattle.rules.specs.Requests.{NoCondition, actionOf, actionCode, isLogin, isClone}
 use Rattle.rules.specs.Modules.{View, viewOf, classIn, macRule, macAnswer, fcAnswer, simAnswer, ffAnswer, answers, moveBy, setLevel, moved, levelled}
 use Rattle.rules.specs.Modules.{signalled}
-use Rattle.rules.specs.Questions.{runsOf, isRunning, numberBy, number}
-use Rattle.rules.specs.Proofs.Passed.{Passed, passed, accepted-zero}
+use Rattle.rules.specs.Questions.{isRunning, numberBy, number}
+use Rattle.rules.specs.Proofs.Passed.{Passed, passed, accepted-zero, judged}
 use Rattle.rules.specs.Proofs.Sound.{Sound}
 use Rattle.rules.specs.Proofs.Processes.{Each, putNumber, putBy, unput-login, unput-clone, each-effect, each-refused}
 use Rattle.rules.specs.Proofs.Fresh.{fresh-setup}
@@ -184,63 +184,28 @@ run-owned (c ∷ cs) f xs R O = run-owned cs (after f c) (last f c ∷ xs) (regu
 pub owned-run : (s : List ℕ) (cs : List Call) → Owned (past (fresh s) cs []) (run (fresh s) cs)
 owned-run s cs = run-owned cs (fresh s) [] (fresh-setup s .regular) (unowned s)
 
--- of a question whose number is no denial: where the whole is denied, it was answered with yes, and the later ones are denied
-ask-denied : (b : Bool) (n r : ℕ) → denies n ≡ false → denies (ask b n r) ≡ true → b ≡ true
-unfolding ask
-ask-denied true n r d h = refl
-ask-denied false n r d h = clash h d
-
-later-denied : (b : Bool) (n r : ℕ) → denies n ≡ false → denies (ask b n r) ≡ true → denies r ≡ true
-unfolding ask
-later-denied true n r d h = h
-later-denied false n r d h = clash h d
-
--- questions 3, 12 and 13 of a denied call
-early : (k : Action) (v : View) (c : Call) → denies (numberBy k v c) ≡ true
-    → (isRunning k (runsOf v) ≡ true)
-    × (denies (ask (not (isNotGranted (answers k v c .combined))) 12 (ask (not (isUndefined (answers k v c .combined))) 13 0)) ≡ true)
-unfolding numberBy denies _or_
-early k v c h1 =
-    let h2 = later-denied _ 1 _ refl h1 in
-    let h3 = later-denied _ 2 _ refl h2 in
-    let h4 = later-denied _ 3 _ refl h3 in
-    let h5 = later-denied _ 4 _ refl h4 in
-    let h8 = later-denied _ 5 _ refl h5 in
-    let h6 = later-denied _ 8 _ refl h8 in
-    let h7 = later-denied _ 6 _ refl h6 in
-    let h9 = later-denied _ 7 _ refl h7 in
-    let h10 = later-denied _ 9 _ refl h9 in
-    let h11 = later-denied _ 10 _ refl h10 in
-    (ask-denied _ 3 _ refl h3, later-denied _ 11 _ refl h11)
-
 -- a login is never denied: MAC grants it, and no other module cares about it
 uncared : (b : Bool) (x : Answer) → cond (b and false) x NotCared ≡ NotCared
 unfolding _and_
 uncared true x = refl
 uncared false x = refl
 
-login-granted : (v : View) (c : Call) → (isNotGranted (answers Login v c .combined) ≡ false) × (isUndefined (answers Login v c .combined) ≡ false)
-unfolding answers answersFrom macAnswer fcAnswer simAnswer ffAnswer macRule
+login-granted : (v : View) (c : Call) → passes (answers Login v c .combined) ≡ true
+unfolding answers answersFrom macAnswer fcAnswer simAnswer ffAnswer macRule passes
 login-granted v c =
     rw (uncared (on (v .switches .fc)) _, uncared (on (v .switches .sim)) _, uncared (on (v .switches .ff)) _)
-    (by-test (on (v .switches .mac)) (λ m. rw m (refl, refl)) (λ m. rw m (refl, refl)))
-
-no-login : (v : View) (c : Call) → denies (numberBy Login v c) ≡ true → ⊥
-unfolding ask denies _or_
-no-login v c h =
-    let (a, b) = login-granted v c in
-    clash (rw (a, b) at (early Login v c h .1)) refl
+    (by-test (on (v .switches .mac)) (λ m. rw m) (λ m. rw m))
 
 denied-runs : (k : Action) (v : View) (c : Call) → denies (numberBy k v c) ≡ true → on (v .caller .running) ≡ true
 unfolding isRunning
-denied-runs Login v c h = absurd (no-login v c h)
-denied-runs Clone v c h = and-l _ _ (early Clone v c h .0)
-denied-runs SendSignal v c h = and-l _ _ (early SendSignal v c h .0)
-denied-runs SetLevel v c h = and-l _ _ (early SetLevel v c h .0)
-denied-runs Terminate v c h = and-l _ _ (early Terminate v c h .0)
-denied-runs Create v c h = and-l _ _ (early Create v c h .0)
-denied-runs OnObject v c h = and-l _ _ (early OnObject v c h .0)
-denied-runs Unknown v c h = and-l _ _ (early Unknown v c h .0)
+denied-runs Login v c h = clash (login-granted v c) (judged Login v c h .answer)
+denied-runs Clone v c h = and-l _ _ (judged Clone v c h .running)
+denied-runs SendSignal v c h = and-l _ _ (judged SendSignal v c h .running)
+denied-runs SetLevel v c h = and-l _ _ (judged SetLevel v c h .running)
+denied-runs Terminate v c h = and-l _ _ (judged Terminate v c h .running)
+denied-runs Create v c h = and-l _ _ (judged Create v c h .running)
+denied-runs OnObject v c h = and-l _ _ (judged OnObject v c h .running)
+denied-runs Unknown v c h = and-l _ _ (judged Unknown v c h .running)
 
 -- a denied call's caller is owned by one of the sixteen, the one whom the history tells
 pub denied-owner : (f : Facility) (c : Call) (xs : List Step) → Owned xs f → denies (number f c) ≡ true

@@ -1,21 +1,22 @@
--- An accepted call is one of which each question of the list is answered with yes. Only this module goes through the list.
-use Prim.Native.Nat.{_<_}
+-- An accepted call is one of which each question of the list is answered with yes; of a denied one those before 12 are. Only this module goes through
+-- the list.
+use Prim.Native.Nat.{ℕ, _<_}
 use mathlib.Core.Path.{_≡_, refl}
-use mathlib.Core.Bool.{true, not}
+use mathlib.Core.Bool.{Bool, true, false, not}
 use lib.Dec.{leb, ltb}
 use borrow.Author.Tests.{ltb-true, eqb-true, not-true, lt-ltb}
-use Rattle.rules.specs.Types.{Call, Facility}
-use Rattle.labels.specs.Decisions.{asked, at, on}
-use Rattle.labels.specs.Laws.Decisions.{and-l, and-r, and-i, ask-yes, ask-later, ask-i}
-use Rattle.answers.specs.Outcomes.{answersFrom}
+use Rattle.rules.specs.Types.{Answer, NotCared, Granted, NotGranted, Undefined, Call, Facility}
+use Rattle.labels.specs.Decisions.{_or_, asked, ask, at, on}
+use Rattle.labels.specs.Laws.Decisions.{and-l, and-r, and-i, ask-yes, ask-later, ask-i, clash}
+use Rattle.answers.specs.Outcomes.{answersFrom, denies}
 use Rattle.opens.specs.Opens.{mostProcesses, mostObjects}
-use Rattle.answers.specs.Answers.{passes}
+use Rattle.answers.specs.Answers.{isNotGranted, isUndefined, passes}
 use Rattle.answers.specs.Laws.Answers.{neither-passes, passes-not-granted, passes-undefined, passes-first}
 use Rattle.rules.specs.Calls.{accepted}
 use Rattle.rules.specs.Requests.{Action, lastRequest, actionOf, isAbsent, isNoCondition, isLogin, isClone, isSendSignal, isSetLevel}
 use Rattle.rules.specs.Requests.{isCreate, needsObject}
 use Rattle.rules.specs.Modules.{View, viewOf, classIn, macRule, macAnswer, answers}
-use Rattle.rules.specs.Questions.{inRange, isRunning, isFree, openFor, roomFor, numberBy, number}
+use Rattle.rules.specs.Questions.{runsOf, inRange, isRunning, isFree, openFor, roomFor, numberBy, number}
 
 pub record Passed (k : Action) (v : View) (c : Call) : Type 0 where
   pub known : leb (c .request) lastRequest ≡ true
@@ -104,3 +105,49 @@ mac-passed k v c q m =
 pub accepted-zero : (f : Facility) (c : Call) → accepted f c ≡ true → number f c ≡ 0
 unfolding accepted
 accepted-zero f c h = eqb-true _ _ h
+
+-- of a question whose number is no denial: where the whole is denied, it was answered with yes, and the later ones are denied
+ask-denied : (b : Bool) (n r : ℕ) → denies n ≡ false → denies (ask b n r) ≡ true → b ≡ true
+unfolding ask
+ask-denied true n r d h = refl
+ask-denied false n r d h = clash h d
+
+later-denied : (b : Bool) (n r : ℕ) → denies n ≡ false → denies (ask b n r) ≡ true → denies r ≡ true
+unfolding ask
+later-denied true n r d h = h
+later-denied false n r d h = clash h d
+
+-- the last two questions deny exactly an answer that does not pass
+denied-answer : (a : Answer) → denies (ask (not (isNotGranted a)) 12 (ask (not (isUndefined a)) 13 0)) ≡ true → passes a ≡ false
+unfolding ask denies _or_ passes
+denied-answer NotCared h = clash h refl
+denied-answer Granted h = clash h refl
+denied-answer NotGranted h = refl
+denied-answer Undefined h = refl
+
+-- a denied call is judged by the modules: its request is one, who has to run does, and its object's kind has the request
+pub record Judged (k : Action) (v : View) (c : Call) : Type 0 where
+  pub known : leb (c .request) lastRequest ≡ true
+  pub running : isRunning k (runsOf v) ≡ true
+  pub class : asked (needsObject k (c .extra)) (not (isAbsent (classIn v c))) ≡ true
+  pub answer : passes (answers k v c .combined) ≡ false
+
+pub judged : (k : Action) (v : View) (c : Call) → denies (numberBy k v c) ≡ true → Judged k v c
+unfolding numberBy denies _or_
+judged k v c h1 =
+    let h2 = later-denied _ 1 _ refl h1 in
+    let h3 = later-denied _ 2 _ refl h2 in
+    let h4 = later-denied _ 3 _ refl h3 in
+    let h5 = later-denied _ 4 _ refl h4 in
+    let h8 = later-denied _ 5 _ refl h5 in
+    let h6 = later-denied _ 8 _ refl h8 in
+    let h7 = later-denied _ 6 _ refl h6 in
+    let h9 = later-denied _ 7 _ refl h7 in
+    let h10 = later-denied _ 9 _ refl h9 in
+    let h11 = later-denied _ 10 _ refl h10 in
+    record {
+      known = ask-denied _ 1 _ refl h1;
+      running = ask-denied _ 3 _ refl h3;
+      class = ask-denied _ 7 _ refl h7;
+      answer = denied-answer _ (later-denied _ 11 _ refl h11);
+    }

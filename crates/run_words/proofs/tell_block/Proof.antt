@@ -13,12 +13,12 @@ Inv-loop first calls n out₀ f₀ place₀ i₀ out f place i = (i ≤ length c
 abbrev μ-loop : tie.MeasureT-loop
 μ-loop first calls n out₀ f₀ place₀ i₀ out f place i = n - i
 
-slice-aggregate-write-all : tie.Need-slice-aggregate-write-all Inv-loop μ-loop
-slice-aggregate-write-all c = let l = c .before .before .loop in sym (length-take-le (l .place) (l .out) (l .inv .1))
+slice-aggregate-write-lines : tie.Need-slice-aggregate-write-lines Inv-loop μ-loop
+slice-aggregate-write-lines c = let l = c .before .before .loop in sym (length-take-le (l .place) (l .out) (l .inv .1))
 
 pub tell-block-spec : {M : Type 1} → statement M
 tell-block-spec =
     tie.close
     (tie.spec Inv-loop μ-loop (λ c κs. search needs) (λ c. search needs) (λ c. search needs) (λ c κs. search needs) (λ c. search needs)
     (λ c. search needs) (λ c κs. search needs) (λ c. search needs) (λ c. search needs) (λ c κs. search needs) (λ c. search needs) (λ c. search needs)
-    (λ c. search needs) slice-aggregate-write-all (λ c κs. search needs) (λ c. search needs))
+    (λ c. search needs) (λ c. search needs) slice-aggregate-write-lines (λ c κs. search needs) (λ c. search needs))

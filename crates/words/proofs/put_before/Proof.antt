@@ -5,7 +5,7 @@ use Rattle.rules.specs.Lines.{decimal}
 use Rattle.rules.specs.Text.{ascii}
 use Rattle.words.specs.Patterns.{filled}
 use Rattle.words.specs.Sentences.{processText}
-use Rattle.words.proofs.Stores.{end, _▸_, stores}
+use Rattle.text.specs.Laws.Stores.{end, _▸_, stores}
 use Rattle.words.proofs.put_before.Statement.{statement}
 use Rattle.words.proofs.put_before.Tie as tie
 

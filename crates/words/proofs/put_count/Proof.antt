@@ -6,7 +6,7 @@ use Rattle.answers.specs.Outcomes.{denies}
 use Rattle.rules.specs.Lines.{decimal}
 use Rattle.rules.specs.Text.{ascii}
 use Rattle.words.specs.Patterns.{filled}
-use Rattle.words.proofs.Stores.{end, _▸_, stores}
+use Rattle.text.specs.Laws.Stores.{end, _▸_, stores}
 use Rattle.words.proofs.put_count.Statement.{statement}
 use Rattle.words.proofs.put_count.Tie as tie
 

@@ -1,11 +1,11 @@
--- A live object is told by its kind, its level and its flags.
+-- A live object is told by its kind, its level, its category, its data type and its flags.
 use mathlib.Core.List.{[], _∷_}
 use borrow.Author.Needs.{needs}
 use borrow.Author.Tests.{eq-eqb, ne-eqb}
 use Rattle.rules.specs.Text.{ascii}
 use Rattle.words.specs.Patterns.{filled}
 use Rattle.words.specs.Sentences.{flagsText}
-use Rattle.words.proofs.Stores.{end, _▸_, stores}
+use Rattle.text.specs.Laws.Stores.{end, _▸_, stores}
 use Rattle.words.proofs.put_object.Statement.{statement}
 use Rattle.words.proofs.put_object.Tie as tie
 
@@ -18,7 +18,8 @@ live c =
     let x = a .v .target in
     rw (eq-eqb _ 1 (c9 .if1 .taken))
     (stores (a .out .now) (a .place)
-    (filled (ascii " object # (%, level $*") (a .c .target ∷ x .object .kind ∷ x .object .label .level ∷ x .object .label .set ∷ []))
+    (filled (ascii " object # (%, level $*, category =, data type ?")
+    (a .c .target ∷ x .object .kind ∷ x .object .label .level ∷ x .object .label .set ∷ x .object .category ∷ x .object .datatype ∷ []))
     (flagsText (x .flags) ∷ ascii ")" ∷ []) (c5 .put-filled .ensures ▸ c3 .put-flags .ensures ▸ c .put-text .ensures ▸ end))
 
 pub put-object-spec : {M : Type 1} → statement M

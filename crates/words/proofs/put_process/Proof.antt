@@ -5,7 +5,7 @@ use borrow.Author.Tests.{eq-eqb, ne-eqb}
 use Rattle.rules.specs.Lines.{decimal}
 use Rattle.rules.specs.Text.{ascii}
 use Rattle.words.specs.Patterns.{filled}
-use Rattle.words.proofs.Stores.{end, _▸_, stores}
+use Rattle.text.specs.Laws.Stores.{end, _▸_, stores}
 use Rattle.words.proofs.put_process.Statement.{statement}
 use Rattle.words.proofs.put_process.Tie as tie
 
@@ -18,9 +18,9 @@ running c =
     let r = a .r in
     rw (eq-eqb _ 1 (c7 .if1 .taken))
     (stores (a .out .now) (a .place)
-    (filled (ascii "user #, clearance #*, current #*, marks #* to #*, moved # times of at most ")
-    (r .owner ∷ a .u .clearance .level ∷ a .u .clearance .set ∷ r .current .level ∷ r .current .set ∷ r .readmark .level ∷ r .readmark .set
-    ∷ r .writemark .level ∷ r .writemark .set ∷ r .moves ∷ []))
+    (filled (ascii "user #, @, <, clearance #*, current #*, marks #* to #*, >, moved # times of at most ")
+    (r .owner ∷ a .u .role ∷ a .u .trusted ∷ a .u .clearance .level ∷ a .u .clearance .set ∷ r .current .level ∷ r .current .set ∷ r .readmark .level
+    ∷ r .readmark .set ∷ r .writemark .level ∷ r .writemark .set ∷ r .automatic ∷ r .moves ∷ []))
     (decimal _ ∷ [])
     (c3 .put-filled .ensures ▸ rw (c1 .most-moves .ensures) at (c .put-decimal .ensures) ▸ end))
 

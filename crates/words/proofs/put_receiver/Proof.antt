@@ -4,7 +4,7 @@ use borrow.Author.Needs.{needs}
 use Rattle.rules.specs.Text.{ascii}
 use Rattle.words.specs.Patterns.{filled}
 use Rattle.words.specs.Sentences.{processText}
-use Rattle.words.proofs.Stores.{end, _▸_, stores}
+use Rattle.text.specs.Laws.Stores.{end, _▸_, stores}
 use Rattle.words.proofs.put_receiver.Statement.{statement}
 use Rattle.words.proofs.put_receiver.Tie as tie
 

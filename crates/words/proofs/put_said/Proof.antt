@@ -39,17 +39,39 @@ set : tie.Need-returns-8
 unfolding said
 set c = rw (c .before .before .match .keys8) (c .put-set .ensures)
 
-itself : tie.Need-returns-9
+role : tie.Need-returns-9
+unfolding said
+role c = rw (c .before .before .match .keys9) (c .put-role .ensures)
+
+trust : tie.Need-returns-10
+unfolding said
+trust c = rw (c .before .before .match .keys10) (c .put-trust .ensures)
+
+automatic : tie.Need-returns-11
+unfolding said
+automatic c = rw (c .before .before .match .keys11) (c .put-automatic .ensures)
+
+category : tie.Need-returns-12
+unfolding said
+category c = rw (c .before .before .match .keys12) (c .put-category .ensures)
+
+data-type : tie.Need-returns-13
+unfolding said
+data-type c = rw (c .before .before .match .keys13) (c .put-data-type .ensures)
+
+itself : tie.Need-returns-14
 itself c =
     let a = c .before .before .before .before .args in
     let m = c .before .before .before .match .rest in
     as-text (a .out .now) _ (a .x ∷ []) _ (a .place) _
-    (said-itself (a .x) (a .n) (m .0 .0 .0 .0 .0 .0 .0 .1) (m .0 .0 .0 .0 .0 .0 .1) (m .0 .0 .0 .0 .0 .1) (m .0 .0 .0 .0 .1) (m .0 .0 .0 .1) (m .0 .0 .1)
-    (m .0 .1) (m .1))
-    (c .put-text .ensures)
+    (said-itself (a .x) (a .n) (m .0 .0 .0 .0 .0 .0 .0 .0 .0 .0 .0 .0 .1) (m .0 .0 .0 .0 .0 .0 .0 .0 .0 .0 .0 .1) (m .0 .0 .0 .0 .0 .0 .0 .0 .0 .0 .1)
+    (m .0 .0 .0 .0 .0 .0 .0 .0 .0 .1) (m .0 .0 .0 .0 .0 .0 .0 .0 .1) (m .0 .0 .0 .0 .0 .0 .0 .1) (m .0 .0 .0 .0 .0 .0 .1) (m .0 .0 .0 .0 .0 .1)
+    (m .0 .0 .0 .0 .1) (m .0 .0 .0 .1) (m .0 .0 .1) (m .0 .1) (m .1)) (c .put-text .ensures)
 
 pub put-said-spec : {M : Type 1} → statement M
 put-said-spec =
     tie.close
     (tie.spec (λ c κs. search needs) (λ c κs. search needs) (λ c κs. search needs) (λ c κs. search needs) (λ c κs. search needs) (λ c κs. search needs)
-    (λ c κs. search needs) (λ c κs. search needs) (λ c. search needs) (λ c κs. search needs) decimal level kind request answer flag number set itself)
+    (λ c κs. search needs) (λ c κs. search needs) (λ c κs. search needs) (λ c κs. search needs) (λ c κs. search needs) (λ c κs. search needs)
+    (λ c κs. search needs) (λ c. search needs) (λ c κs. search needs) decimal level kind request answer flag number set role trust automatic category
+    data-type itself)

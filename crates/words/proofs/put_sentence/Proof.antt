@@ -4,7 +4,7 @@ use borrow.Author.Needs.{needs}
 use Rattle.rules.specs.Lines.{lineFeed}
 use Rattle.rules.specs.Requests.{actionOf}
 use Rattle.words.specs.Sentences.{beforeText, targetText, outcomeText, processText, laterText, countText}
-use Rattle.words.proofs.Stores.{end, _▸_, stores}
+use Rattle.text.specs.Laws.Stores.{end, _▸_, stores}
 use Rattle.words.proofs.put_sentence.Statement.{statement}
 use Rattle.words.proofs.put_sentence.Tie as tie
 

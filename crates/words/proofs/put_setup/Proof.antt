@@ -6,7 +6,7 @@ use Rattle.rules.specs.Text.{ascii}
 use Rattle.text.specs.Laws.Stored.{counts}
 use Rattle.words.specs.Patterns.{filled}
 use Rattle.words.specs.Sentences.{setupSentence}
-use Rattle.words.proofs.Stores.{end, _▸_, stores}
+use Rattle.text.specs.Laws.Stores.{end, _▸_, stores}
 use Rattle.words.proofs.put_setup.Statement.{statement}
 use Rattle.words.proofs.put_setup.Tie as tie
 

@@ -5,34 +5,34 @@ use borrow.Author.Needs.{needs}
 use Rattle.state.specs.declared.Call.{Call}
 use Rattle.state.specs.declared.Facility.{Facility}
 use Rattle.state.specs.State.{objectsIn}
-use Rattle.rules.specs.declared.Class.{Class}
 use Rattle.rules.specs.declared.View.{View}
-use Rattle.rules.specs.FileFlags.{forbidding, flagSource}
-use Rattle.rules.specs.Modules.{classIn}
+use Rattle.rules.specs.FileFlags.{flagSource}
 use Rattle.flags.specs.Lists.{flagged}
 use Rattle.flags.specs.Laws.{source-lists}
+use Rattle.reasons.specs.declared.Failed.{Failed}
+use Rattle.reasons.specs.Reasons.{failedBy}
+use Rattle.names.specs.Reasons.{sourceOf}
 use Rattle.words.specs.Sentences.{Reason, reasonIn}
 use Rattle.words.proofs.reason_in.Statement.{statement}
 use Rattle.words.proofs.reason_in.Tie as tie
 
-abbrev reason : ℕ → ℕ → Reason
-reason m s = record { flag = m; source = s }
+abbrev reason : Failed → ℕ → Reason
+reason w s = record { failed = w; source = s }
 
-found : (f : Facility) (v : View) (c : Call) (k : Class) (m s : ℕ) → k ≡ classIn v c
-    → m ≡ forbidding (v .target .flags) (c .request) k (v .target .object .kind)
-    → s ≡ flagSource (flagged (f .lives) (f .flags) (f .parents)) (c .target) m → reason m s ≡ reasonIn f v c
+found : (f : Facility) (n : ℕ) (v : View) (c : Call) (w : Failed) (s : ℕ) → w ≡ failedBy n v c
+    → s ≡ flagSource (flagged (f .lives) (f .flags) (f .parents)) (c .target) (w .flag) → reason w s ≡ reasonIn f n v c
 unfolding reasonIn
-found f v c k m s hk hm hs =
-    let em = hm ∙ ap (λ (x : Class). forbidding (v .target .flags) (c .request) x (v .target .object .kind)) hk in
-    let es = hs ∙ source-lists (objectsIn f) (c .target) m ∙ ap (λ (x : ℕ). flagSource (objectsIn f) (c .target) x) em in
-    λ i. record { flag = em i; source = es i }
+found f n v c w s hw hs =
+    let es = hs ∙ source-lists (objectsIn f) (c .target) (w .flag) ∙ ap (λ (x : Failed). sourceOf f c (x .flag)) hw in
+    λ i. record { failed = hw i; source = es i }
 
 returns : tie.Need-returns
 returns c =
-    let forbids = c .before .before .before .before .before .before .before .before in
-    let class = forbids .before in
-    let a = class .before .args in
-    found (a .t1) (a .v) (a .c) _ _ _ (class .class-in .ensures) (forbids .forbidding .ensures) (c .source-at .ensures)
+    let failed = c .before .before .before .before .before .before .before .before in
+    let a = failed .before .args in
+    found (a .t1) (a .n) (a .v) (a .c) _ _ (failed .failed-by .ensures) (c .source-at .ensures)
 
 pub reason-in-spec : {M : Type 1} → statement M
-reason-in-spec = tie.close (tie.spec (λ c κs. search needs) (λ c κs. search needs) (λ c κs. search needs) returns)
+reason-in-spec =
+    tie.close
+    (tie.spec (λ c κs. search needs) (λ c κs. search needs) returns)

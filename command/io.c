@@ -1,0 +1,155 @@
+#include "io.h"
+
+#include <errno.h>
+#include <fcntl.h>
+#include <poll.h>
+#include <stdarg.h>
+#include <stdio.h>
+#include <stdlib.h>
+#include <string.h>
+#include <unistd.h>
+
+void tell(const char *format, ...)
+{
+    va_list arguments;
+    va_start(arguments, format);
+    fputs("hvozdalka: ", stderr);
+    vfprintf(stderr, format, arguments);
+    fputc('\n', stderr);
+    va_end(arguments);
+}
+
+enum status failed(const char *what)
+{
+    tell("%s: %s", what, strerror(errno));
+    return FAILED;
+}
+
+static void out_of_memory(void)
+{
+    errno = ENOMEM;
+    exit((int)failed("memory"));
+}
+
+/* Room for so many bytes more; it doubles, so that adding stays cheap. */
+static void make_room(struct bytes *b, size_t length)
+{
+    if (b->room - b->length >= length) return;
+    if (length > SIZE_MAX / 4 || b->room > SIZE_MAX / 4) out_of_memory();
+    size_t room = 2 * b->room + length + 1024;
+    uint8_t *at = realloc(b->at, room);
+    if (at == NULL) out_of_memory();
+    b->at = at;
+    b->room = room;
+}
+
+void add(struct bytes *b, const void *from, size_t length)
+{
+    make_room(b, length);
+    if (length > 0) memcpy(b->at + b->length, from, length);
+    b->length += length;
+}
+
+void add_text(struct bytes *b, const char *format, ...)
+{
+    va_list arguments, second;
+    enum { MOST = 512 };                       /* enough for numbers and names; where it is not, the second try has the room */
+    make_room(b, MOST);
+    va_start(arguments, format);
+    va_copy(second, arguments);
+    int n = vsnprintf((char *)b->at + b->length, MOST, format, arguments);
+    if (n >= MOST) {
+        make_room(b, (size_t)n + 1);
+        n = vsnprintf((char *)b->at + b->length, (size_t)n + 1, format, second);
+    }
+    if (n > 0) b->length += (size_t)n;
+    va_end(second);
+    va_end(arguments);
+}
+
+/* Whether the last read or write is to be tried again: after a signal at once, where it would block once the descriptor is ready. */
+static bool again(int fd, short events)
+{
+    if (errno == EINTR) return true;
+    if (errno != EAGAIN && errno != EWOULDBLOCK) return false;
+    struct pollfd ready = {fd, events, 0};
+    return poll(&ready, 1, -1) >= 0 || errno == EINTR;
+}
+
+ssize_t read_some(int fd, void *to, size_t length)
+{
+    ssize_t n;
+    do n = read(fd, to, length);
+    while (n < 0 && again(fd, POLLIN));
+    return n;
+}
+
+static bool write_all(int fd, const uint8_t *from, size_t length)
+{
+    while (length > 0) {
+        ssize_t n = write(fd, from, length);
+        if (n == 0) errno = ENOSPC;            /* nothing can be written there, and no reason is given */
+        if (n == 0 || (n < 0 && !again(fd, POLLOUT))) return false;
+        if (n > 0) {                           /* else it is tried again */
+            from += n;
+            length -= (size_t)n;
+        }
+    }
+    return true;
+}
+
+static bool read_all(int fd, size_t most, struct bytes *b)
+{
+    while (b->length < most) {
+        make_room(b, 65536);
+        size_t room = b->room - b->length, wanted = most - b->length;
+        ssize_t n = read_some(fd, b->at + b->length, room < wanted ? room : wanted);
+        if (n <= 0) return n == 0;
+        b->length += (size_t)n;
+    }
+    return true;
+}
+
+static bool is_standard(const char *name)
+{
+    return name == NULL || strcmp(name, "-") == 0;
+}
+
+const char *name_of(const char *name)
+{
+    return is_standard(name) ? "standard input" : name;
+}
+
+static bool read_named(const char *name, size_t most, struct bytes *b)
+{
+    int fd;
+    do fd = open(name, O_RDONLY | O_CLOEXEC | O_NOCTTY);
+    while (fd < 0 && errno == EINTR);
+    if (fd < 0) return false;
+    bool is_read = read_all(fd, most, b);
+    int why = errno;
+    close(fd);
+    errno = why;
+    return is_read;
+}
+
+bool read_whole(const char *name, size_t most, struct bytes *b)
+{
+    if (is_standard(name) ? read_all(STDIN_FILENO, most, b) : read_named(name, most, b)) return true;
+    int why = errno;
+    free(b->at);
+    *b = (struct bytes){0};
+    errno = why;
+    return false;
+}
+
+enum status write_out(const void *from, size_t length)
+{
+    return write_all(STDOUT_FILENO, from, length) ? DONE : failed("standard output");
+}
+
+enum status close_out(void)
+{
+    /* After a signal the descriptor is closed all the same. */
+    return close(STDOUT_FILENO) == 0 || errno == EINTR ? DONE : failed("standard output");
+}

@@ -1,0 +1,178 @@
+#include "lines.h"
+
+#include <stdarg.h>
+#include <stdio.h>
+#include <string.h>
+
+bool mistake(const struct line *l, const char *format, ...)
+{
+    va_list arguments;
+    va_start(arguments, format);
+    fprintf(stderr, "%s:%zu: ", l->file, l->number);
+    vfprintf(stderr, format, arguments);
+    fputc('\n', stderr);
+    va_end(arguments);
+    return false;
+}
+
+/* A word as it is told: no byte of it may play with the terminal, and a long one is cut. */
+static const char *quoted(struct word w, char out[256])
+{
+    enum { SHOWN = 40 };
+    size_t n = 0;
+    out[n++] = '\'';
+    for (size_t i = 0; i < w.length && i < SHOWN; i++) {
+        unsigned char c = (unsigned char)w.at[i];
+        n += (size_t)sprintf(out + n, c > 32 && c < 127 ? "%c" : "\\x%02x", c);
+    }
+    sprintf(out + n, w.length > SHOWN ? "...'" : "'");
+    return out;
+}
+
+bool unexpected(const struct line *l, const char *expected)
+{
+    char word[256];
+    if (at_end(l)) return mistake(l, "expected %s, but the line ends", expected);
+    return mistake(l, "expected %s, not %s", expected, quoted(l->words[l->next], word));
+}
+
+bool at_end(const struct line *l)
+{
+    return l->next == l->count;
+}
+
+static bool is_word(struct word w, const char *text)
+{
+    return w.length == strlen(text) && memcmp(w.at, text, w.length) == 0;
+}
+
+bool is_next(const struct line *l, const char *text)
+{
+    return !at_end(l) && is_word(l->words[l->next], text);
+}
+
+bool accept(struct line *l, const char *text)
+{
+    bool is = is_next(l, text);
+    l->next += is;
+    return is;
+}
+
+int accept_name(struct line *l, name_text *names, int count)
+{
+    for (int i = 0; i < count; i++)
+        if (accept(l, names[i])) return i;
+    return -1;
+}
+
+bool is_number_next(const struct line *l)
+{
+    return !at_end(l) && l->words[l->next].at[0] >= '0' && l->words[l->next].at[0] <= '9';
+}
+
+bool take_number(struct line *l, const char *what, unsigned most, uint8_t *out)
+{
+    char expected[128];
+    struct word w = at_end(l) ? (struct word){"", 0} : l->words[l->next];
+    unsigned n = 0;
+    bool is = w.length > 0;
+    for (size_t i = 0; is && i < w.length; i++) {
+        is = w.at[i] >= '0' && w.at[i] <= '9';
+        if (is) n = 10 * n + (unsigned)(w.at[i] - '0');
+        is = is && n <= most;
+    }
+    snprintf(expected, sizeof expected, "%s from 0 to %u", what, most);
+    if (!is) return unexpected(l, expected);
+    *out = (uint8_t)n;
+    l->next++;
+    return true;
+}
+
+/* Takes a name with a hyphen as two words. */
+static bool accept_apart(struct line *l, const char *text)
+{
+    size_t first = strcspn(text, "-");
+    if (text[first] == 0 || l->next + 1 >= l->count) return false;
+    struct word w = l->words[l->next];
+    if (w.length != first || memcmp(w.at, text, first) != 0 || !is_word(l->words[l->next + 1], text + first + 1)) return false;
+    l->next += 2;
+    return true;
+}
+
+bool take_kind(struct line *l, uint8_t *kind)
+{
+    char word[256], all[LISTED];
+    int k = accept_name(l, kind_names, KINDS);
+    for (int i = 0; k < 0 && i < KINDS; i++)
+        if (accept_apart(l, kind_names[i])) k = i;
+    if (k < 0 && at_end(l)) return mistake(l, "expected a kind (%s), but the line ends", listed(kind_names, KINDS, all));
+    if (k < 0) return mistake(l, "unknown kind %s (%s)", quoted(l->words[l->next], word), listed(kind_names, KINDS, all));
+    *kind = (uint8_t)k;
+    return true;
+}
+
+bool is_set_next(const struct line *l)
+{
+    if (at_end(l)) return false;
+    struct word w = l->words[l->next];
+    size_t letters = 0;
+    while (letters < w.length && w.at[letters] >= 'a' && w.at[letters] <= 'h') letters++;
+    return letters == w.length || is_word(w, "all");
+}
+
+bool take_set(struct line *l, uint8_t *set)
+{
+    *set = 0;
+    if (accept(l, "none")) return true;
+    if (accept(l, "all")) {
+        *set = HV_ALL_CATEGORIES;
+        return true;
+    }
+    bool is = is_set_next(l);
+    for (size_t i = 0; is && i < l->words[l->next].length; i++) {
+        uint8_t bit = (uint8_t)(1 << (l->words[l->next].at[i] - 'a'));
+        is = (*set & bit) == 0;
+        *set |= bit;
+    }
+    if (!is) return unexpected(l, "categories (letters a to h, each once, or all, or none)");
+    l->next++;
+    return true;
+}
+
+bool give(const struct line *l, unsigned *given, unsigned field, const char *name)
+{
+    if (*given & field) return mistake(l, "%s is given twice", name);
+    *given |= field;
+    return true;
+}
+
+/* The words of a line without its comment; a carriage return is a blank. */
+static bool split(struct line *l, const char *at, const char *end)
+{
+    const char *comment = memchr(at, '#', (size_t)(end - at));
+    if (comment != NULL) end = comment;
+    l->count = l->next = 0;
+    while (at < end) {
+        const char *from = at;
+        while (at < end && *at != ' ' && (*at < '\t' || *at > '\r')) at++;
+        if (at > from && l->count == WORDS_MOST) return mistake(l, "more than %d words", WORDS_MOST);
+        if (at > from) l->words[l->count++] = (struct word){from, (size_t)(at - from)};
+        at += at < end;
+    }
+    return true;
+}
+
+enum status read_lines(const char *file, const struct bytes *text, line_reader *read, void *into)
+{
+    struct line l = {.file = file};
+    const char *at = (const char *)text->at, *end = at + text->length;
+    while (at < end) {
+        const char *feed = memchr(at, '\n', (size_t)(end - at));
+        const char *stop = feed != NULL ? feed : end;
+        l.number++;
+        if (!split(&l, at, stop)) return REFUSED;
+        if (l.count > 0 && !read(&l, into)) return REFUSED;
+        at = feed != NULL ? feed + 1 : end;
+    }
+    return DONE;
+}

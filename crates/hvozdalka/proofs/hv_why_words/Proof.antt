@@ -1,0 +1,24 @@
+-- The text of what failed, the flag traced in the arrays that are lent.
+use mathlib.Core.Path.{_∙_}
+use borrow.Author.Needs.{needs}
+use Rattle.flags.specs.Laws.{source-lists}
+use Rattle.state.specs.State.{objectsIn}
+use Rattle.text.specs.Laws.Stored.{as-text}
+use Rattle.hvozdalka.specs.Numbers.{callOf}
+use Rattle.hvozdalka.proofs.Why.{text-found}
+use Rattle.hvozdalka.proofs.hv_why_words.Statement.{statement}
+use Rattle.hvozdalka.proofs.hv_why_words.Tie as tie
+
+returns : tie.Need-returns
+returns c =
+    let put = c .before .before in
+    let source = put .before .before in
+    let failed = source .before .before .before .before .before .before .before .before in
+    let a = failed .before .before .args in
+    let call = callOf (a .request) (a .process) (a .target) (a .extra) in
+    as-text (a .out .now) _ _ _ 0 _
+    (text-found (a .t1) call _ _ (failed .failed-of .ensures)
+    (source .source-at .ensures ∙ source-lists (objectsIn (a .t1)) (a .target) (failed .failed-of .result .flag))) (put .put-failed .ensures)
+
+pub hv-why-words-spec : {M : Type 1} → statement M
+hv-why-words-spec = tie.close (tie.spec (λ c κs. search needs) (λ c κs. search needs) (λ c κs. search needs) (λ c. search needs) returns)
