@@ -19,24 +19,24 @@ unfoldable pub textIf : Bool → List ℕ → List ℕ
 textIf b text = cond b text []
 
 -- MAC's, each in brackets: of the label that was asked for, and of a signal's receiver
-unfoldable pub macText : Failed → List ℕ
-macText w =
+unfoldable pub macReasons : Failed → List ℕ
+macReasons w =
     textIf (w .unset) (ascii " (level unset)") ++ textIf (w .fixed) (ascii " (automatic off)")
     ++ textIf (w .clearance) (ascii " (label not under the clearance)") ++ textIf (w .writemark) (ascii " (label not under the write mark)")
     ++ textIf (w .readmark) (ascii " (label not over the read mark)") ++ textIf (w .receiver) (ascii " (current labels differ)")
 
 -- FC's and SIM's
-unfoldable pub roleText : Failed → List ℕ
-roleText w =
+unfoldable pub roleReasons : Failed → List ℕ
+roleReasons w =
     textIf (w .nocategory) (ascii " (category unset)") ++ textIf (w .category) (ascii " (category not of the role)")
     ++ textIf (w .datatype) (ascii " (security information, not security officer)")
 
 -- FF's: the flag, and the object whose own flag it is
-unfoldable pub flagText : ℕ → ℕ → List ℕ
-flagText m source = cond (eqb m 0) [] (ascii " (" ++ flagWord m ++ ascii " of object " ++ decimal source ++ ascii ")")
+unfoldable pub flagReason : ℕ → ℕ → List ℕ
+flagReason m source = cond (eqb m 0) [] (ascii " (" ++ flagWord m ++ ascii " of object " ++ decimal source ++ ascii ")")
 
 unfoldable pub failedText : Failed → ℕ → List ℕ
-failedText w source = macText w ++ roleText w ++ flagText (w .flag) source
+failedText w source = macReasons w ++ roleReasons w ++ flagReason (w .flag) source
 
 -- the object that the flag comes from which forbids call c on f
 abbrev pub sourceOf : Facility → Call → ℕ → ℕ
@@ -63,5 +63,5 @@ example :
     12
     ≡ ascii " (level unset) (automatic off) (label not under the clearance) (label not under the write mark) (label not over the read mark)"
     ++ ascii " (current labels differ) (category unset) (category not of the role) (security information, not security officer) (read-only of object 12)"
-unfolding decimalIn textIf macText roleText flagText failedText flagWord
+unfolding decimalIn textIf macReasons roleReasons flagReason failedText flagWord
 example = refl

@@ -5,7 +5,7 @@ ghost use Prim.Native.Nat.{_+_, _*_, _≤_, min};
 ghost use mathlib.Core.Path.{_≡_};
 ghost use lib.ListN.{length};
 ghost use Rattle.names.specs.Tables.{sizeIn, wordAt};
-ghost use Rattle.names.specs.Reasons.{failedText, flagText, macText, roleText, textIf};
+ghost use Rattle.names.specs.Reasons.{failedText, flagReason, macReasons, roleReasons, textIf};
 ghost use Rattle.names.specs.Words.{answerWord, automaticWord, categoryWord, dataTypeWord, flagWord, kindWord, letterWord, levelWord};
 ghost use Rattle.names.specs.Words.{numberWord, requestWord, roleWord, setWord, trustWord};
 ghost use Rattle.text.specs.Stored.{Stored};
@@ -248,8 +248,8 @@ fn put_where(out: &mut [u8], place: usize, told: bool, text: &[u8]) -> usize
 }
 
 // The conditions of MAC that failed.
-fn put_mac(out: &mut [u8], place: usize, w: Failed) -> usize
-    ensures { λ r. ⌜ Stored (now (out .entry)) place (macText w) (now (out .exit)) r ⌝ }
+fn put_mac_reasons(out: &mut [u8], place: usize, w: Failed) -> usize
+    ensures { λ r. ⌜ Stored (now (out .entry)) place (macReasons w) (now (out .exit)) r ⌝ }
 {
     let mut p = put_where(out, place, w.unset, b" (level unset)");
     p = put_where(out, p, w.fixed, b" (automatic off)");
@@ -260,8 +260,8 @@ fn put_mac(out: &mut [u8], place: usize, w: Failed) -> usize
 }
 
 // Those of FC and SIM.
-fn put_roles(out: &mut [u8], place: usize, w: Failed) -> usize
-    ensures { λ r. ⌜ Stored (now (out .entry)) place (roleText w) (now (out .exit)) r ⌝ }
+fn put_role_reasons(out: &mut [u8], place: usize, w: Failed) -> usize
+    ensures { λ r. ⌜ Stored (now (out .entry)) place (roleReasons w) (now (out .exit)) r ⌝ }
 {
     let mut p = put_where(out, place, w.nocategory, b" (category unset)");
     p = put_where(out, p, w.category, b" (category not of the role)");
@@ -274,8 +274,8 @@ fn put_roles(out: &mut [u8], place: usize, w: Failed) -> usize
 }
 
 // The flag by which FF does not grant, and the object whose own flag it is.
-fn put_flag(out: &mut [u8], place: usize, flag: u8, source: u8) -> usize
-    ensures { λ r. ⌜ Stored (now (out .entry)) place (flagText flag source) (now (out .exit)) r ⌝ }
+fn put_flag_reason(out: &mut [u8], place: usize, flag: u8, source: u8) -> usize
+    ensures { λ r. ⌜ Stored (now (out .entry)) place (flagReason flag source) (now (out .exit)) r ⌝ }
 {
     if flag == 0 {
         return text::put_text(out, place, b"");
@@ -291,7 +291,7 @@ fn put_flag(out: &mut [u8], place: usize, flag: u8, source: u8) -> usize
 pub fn put_failed(out: &mut [u8], place: usize, w: Failed, source: u8) -> usize
     ensures { λ r. ⌜ Stored (now (out .entry)) place (failedText w source) (now (out .exit)) r ⌝ }
 {
-    let mut p = put_mac(out, place, w);
-    p = put_roles(out, p, w);
-    put_flag(out, p, w.flag, source)
+    let mut p = put_mac_reasons(out, place, w);
+    p = put_role_reasons(out, p, w);
+    put_flag_reason(out, p, w.flag, source)
 }

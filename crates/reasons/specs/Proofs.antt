@@ -3,3 +3,4 @@ pub mod MacTold
 pub mod Explained
 pub mod Enough
 pub mod Needed
+pub mod Found

@@ -1,7 +1,7 @@
 -- The number is query's, and the view that of the facility.
 use borrow.Author.Needs.{needs}
 use Rattle.in_place.specs.Layout.{facilityAt}
-use Rattle.hvozdalka.proofs.Why.{failed-found}
+use Rattle.reasons.specs.Proofs.Found.{failed-found}
 use Rattle.hvozdalka.proofs.failed_at.Statement.{statement}
 use Rattle.hvozdalka.proofs.failed_at.Tie as tie
 

@@ -2,13 +2,13 @@
 use mathlib.Core.List.{[], _∷_}
 use borrow.Author.Needs.{needs}
 use Rattle.rules.specs.Text.{ascii}
-use Rattle.names.specs.Reasons.{textIf, roleText}
+use Rattle.names.specs.Reasons.{textIf, roleReasons}
 use Rattle.text.specs.Laws.Stores.{end, _▸_, stores}
-use Rattle.names.proofs.put_roles.Statement.{statement}
-use Rattle.names.proofs.put_roles.Tie as tie
+use Rattle.names.proofs.put_role_reasons.Statement.{statement}
+use Rattle.names.proofs.put_role_reasons.Tie as tie
 
 returns : tie.Need-returns
-unfolding roleText
+unfolding roleReasons
 returns c =
     let c3 = c .before .before in
     let c2 = c3 .before .before .before .before .before in
@@ -19,8 +19,8 @@ returns c =
     (textIf (w .category) (ascii " (category not of the role)") ∷ textIf (w .datatype) (ascii " (security information, not security officer)") ∷ [])
     (c1 .put-where .ensures ▸ c2 .put-where2 .ensures ▸ c3 .put-where3 .ensures ▸ end)
 
-pub put-roles-spec : {M : Type 1} → statement M
-put-roles-spec =
+pub put-role-reasons-spec : {M : Type 1} → statement M
+put-role-reasons-spec =
     tie.close
     (tie.spec (λ c. search needs) (λ c κs. search needs) (λ c. search needs) (λ c κs. search needs) (λ c. search needs) (λ c κs. search needs)
     (λ c. search needs) returns)

@@ -2,13 +2,13 @@
 use mathlib.Core.List.{[], _∷_}
 use borrow.Author.Needs.{needs}
 use Rattle.rules.specs.Text.{ascii}
-use Rattle.names.specs.Reasons.{textIf, macText}
+use Rattle.names.specs.Reasons.{textIf, macReasons}
 use Rattle.text.specs.Laws.Stores.{end, _▸_, stores}
-use Rattle.names.proofs.put_mac.Statement.{statement}
-use Rattle.names.proofs.put_mac.Tie as tie
+use Rattle.names.proofs.put_mac_reasons.Statement.{statement}
+use Rattle.names.proofs.put_mac_reasons.Tie as tie
 
 returns : tie.Need-returns
-unfolding macText
+unfolding macReasons
 returns c =
     let c6 = c .before .before in
     let c5 = c6 .before .before .before .before .before in
@@ -25,8 +25,8 @@ returns c =
     (c1 .put-where .ensures ▸ c2 .put-where2 .ensures ▸ c3 .put-where3 .ensures ▸ c4 .put-where4 .ensures ▸ c5 .put-where5 .ensures
     ▸ c6 .put-where6 .ensures ▸ end)
 
-pub put-mac-spec : {M : Type 1} → statement M
-put-mac-spec =
+pub put-mac-reasons-spec : {M : Type 1} → statement M
+put-mac-reasons-spec =
     tie.close
     (tie.spec (λ c. search needs) (λ c κs. search needs) (λ c. search needs) (λ c κs. search needs) (λ c. search needs) (λ c κs. search needs)
     (λ c. search needs) (λ c κs. search needs) (λ c. search needs) (λ c κs. search needs) (λ c. search needs) (λ c κs. search needs) (λ c. search needs)

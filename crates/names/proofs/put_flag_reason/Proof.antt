@@ -5,17 +5,17 @@ use borrow.Author.Tests.{eq-eqb, ne-eqb}
 use Rattle.rules.specs.Lines.{decimal}
 use Rattle.rules.specs.Text.{ascii}
 use Rattle.names.specs.Words.{flagWord}
-use Rattle.names.specs.Reasons.{flagText}
+use Rattle.names.specs.Reasons.{flagReason}
 use Rattle.text.specs.Laws.Stores.{end, _▸_, stores}
-use Rattle.names.proofs.put_flag.Statement.{statement}
-use Rattle.names.proofs.put_flag.Tie as tie
+use Rattle.names.proofs.put_flag_reason.Statement.{statement}
+use Rattle.names.proofs.put_flag_reason.Tie as tie
 
 none : tie.Need-returns
-unfolding flagText
+unfolding flagReason
 none c = let r = c .before .before in rw (eq-eqb _ 0 (r .before .before .before .if1 .taken)) (r .put-text .ensures)
 
 some : tie.Need-returns-2
-unfolding flagText
+unfolding flagReason
 some c =
     let c5 = c .before .before in
     let c4 = c5 .before .before .before .before .before in
@@ -28,8 +28,8 @@ some c =
     (stores (a .out .now) (a .place) (ascii " (") (flagWord (a .flag) ∷ ascii " of object " ∷ decimal (a .source) ∷ ascii ")" ∷ [])
     (c1 .put-text2 .ensures ▸ c2 .put-flag-word .ensures ▸ c3 .put-text3 .ensures ▸ c4 .put-small .ensures ▸ c5 .put-text4 .ensures ▸ end))
 
-pub put-flag-spec : {M : Type 1} → statement M
-put-flag-spec =
+pub put-flag-reason-spec : {M : Type 1} → statement M
+put-flag-reason-spec =
     tie.close
     (tie.spec (λ c. search needs) (λ c κs. search needs) (λ c. search needs) none (λ c. search needs) (λ c κs. search needs) (λ c κs. search needs)
     (λ c. search needs) (λ c κs. search needs) (λ c κs. search needs) (λ c. search needs) (λ c κs. search needs) (λ c. search needs) some)
