@@ -7,7 +7,7 @@
 #include "lines.h"
 #include "names.h"
 
-enum { CALL = 4, REQUEST = 0, PROCESS = 1, TARGET = 2, EXTRA = 3 };
+enum { CALL = 4, REQUEST = 0, PROCESS = 1, TARGET = 2, EXTRA = 3, TEXT_BLOCK = 65536 };
 
 /* What a request's target and extra are called, null where it has none, and what stands behind the request in its line. */
 struct form { const char *target, *extra, *rest; };
@@ -71,8 +71,13 @@ enum status calls_to_text(const char *file)
     if (!read_whole(file, SIZE_MAX, &calls)) return failed(name_of(file));
     enum status s = REFUSED;
     if (calls.length % CALL == 0) {
-        for (size_t i = 0; i < calls.length; i += CALL) add_call(&text, calls.at + i);
-        s = write_out(text.at, text.length);
+        s = DONE;
+        for (size_t i = 0; i < calls.length && s == DONE; i += CALL) {
+            add_call(&text, calls.at + i);
+            if (text.length < TEXT_BLOCK && i + CALL < calls.length) continue;
+            s = write_out(text.at, text.length);
+            text.length = 0;
+        }
     } else {
         size_t left = calls.length % CALL;
         tell("%s: %zu byte%s left over after call %zu, and a call has %d", name_of(file), left, left == 1 ? "" : "s", calls.length / CALL, CALL);
@@ -177,11 +182,9 @@ static bool read_call(struct line *l, void *into)
 
 enum status calls_from_text(const char *file)
 {
-    struct bytes text = {0}, calls = {0};
-    if (!read_whole(file, SIZE_MAX, &text)) return failed(name_of(file));
-    enum status s = read_lines(name_of(file), &text, read_call, &calls);
+    struct bytes calls = {0};
+    enum status s = read_lines(file, read_call, &calls);
     if (s == DONE) s = write_out(calls.at, calls.length);
     free(calls.at);
-    free(text.at);
     return s;
 }

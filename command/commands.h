@@ -20,8 +20,8 @@ enum status check_setup(const char *file);
 /* What the proved reader says of bytes. */
 hv_reading reading_of(const struct bytes *setup);
 
-/* Adds which record of a set-up is refused, and why. */
-void add_refusal(struct bytes *b, const struct bytes *setup, const hv_reading *r);
+/* Adds which record of a set-up is refused, and why; `is_cut` where it may be longer than what was read. */
+void add_refusal(struct bytes *b, const struct bytes *setup, bool is_cut, const hv_reading *r);
 
 /* setup_text.c, calls_text.c: bytes to text, and text to bytes. */
 enum status setup_to_text(const char *file);

@@ -60,15 +60,23 @@ static enum status run(int count, char **arguments, enum status (*how)(const cha
     return how(count == 1 ? arguments[0] : "setup.bin");
 }
 
+static bool asks_for_help(int count, char **arguments)
+{
+    for (int i = 0; i < count; i++)
+        if (strcmp(arguments[i], "--help") == 0 || strcmp(arguments[i], "-h") == 0) return true;
+    return false;
+}
+
 static enum status command(int count, char **arguments)
 {
     const char *name = count > 0 ? arguments[0] : "";
+    if (asks_for_help(count, arguments)) return help();
     if (strcmp(name, "run") == 0) return run(count - 1, arguments + 1, run_calls);
     if (strcmp(name, "words") == 0) return run(count - 1, arguments + 1, run_words);
     if (strcmp(name, "check") == 0) return count != 2 ? wrong_use("check needs one set-up") : check_setup(arguments[1]);
     if (strcmp(name, "text") == 0) return text(count - 1, arguments + 1);
     if (count > 1) return wrong_use("no such command, or too much behind it");
-    if (strcmp(name, "help") == 0 || strcmp(name, "--help") == 0 || strcmp(name, "-h") == 0) return help();
+    if (strcmp(name, "help") == 0) return help();
     if (strcmp(name, "version") == 0 || strcmp(name, "--version") == 0) return version();
     return wrong_use(count > 0 ? "no such command" : "no command is given");
 }

@@ -115,28 +115,59 @@ static bool is_standard(const char *name)
     return name == NULL || strcmp(name, "-") == 0;
 }
 
-const char *name_of(const char *name)
+/* How many of the next bytes are a control character, in ASCII or in UTF-8: these may play with the terminal. */
+static size_t control(const unsigned char *at)
 {
-    return is_standard(name) ? "standard input" : name;
+    if (at[0] < ' ' || at[0] == 127) return 1;
+    return at[0] == 0xc2 && at[1] >= 0x80 && at[1] < 0xa0 ? 2 : 0;
 }
 
-static bool read_named(const char *name, size_t most, struct bytes *b)
+const char *name_of(const char *name)
+{
+    static struct bytes told;                  /* the command has one file, so that what it was called before is the same */
+    if (is_standard(name)) return "standard input";
+    told.length = 0;
+    for (const unsigned char *at = (const unsigned char *)name; *at != 0; at++) {
+        size_t n = control(at);
+        if (n == 0) add(&told, at, 1);
+        for (; n > 0; n--) add_text(&told, "\\x%02x", n == 2 ? *at++ : *at);
+    }
+    add(&told, "", 1);
+    return (const char *)told.at;
+}
+
+int open_input(const char *name)
 {
     int fd;
+    if (is_standard(name)) return STDIN_FILENO;
     do fd = open(name, O_RDONLY | O_CLOEXEC | O_NOCTTY);
     while (fd < 0 && errno == EINTR);
-    if (fd < 0) return false;
-    bool is_read = read_all(fd, most, b);
-    int why = errno;
-    close(fd);
-    errno = why;
-    return is_read;
+    return fd;
+}
+
+void close_input(const char *name, int fd)
+{
+    /* A file may have the number of a standard input that was closed. */
+    if (!is_standard(name) && fd >= 0) close(fd);
+}
+
+ssize_t add_some(int fd, struct bytes *b)
+{
+    make_room(b, 65536);
+    ssize_t n = read_some(fd, b->at + b->length, b->room - b->length);
+    if (n > 0) b->length += (size_t)n;
+    return n;
 }
 
 bool read_whole(const char *name, size_t most, struct bytes *b)
 {
-    if (is_standard(name) ? read_all(STDIN_FILENO, most, b) : read_named(name, most, b)) return true;
+    int fd = open_input(name);
+    if (fd >= 0 && read_all(fd, most, b)) {
+        close_input(name, fd);
+        return true;
+    }
     int why = errno;
+    close_input(name, fd);
     free(b->at);
     *b = (struct bytes){0};
     errno = why;

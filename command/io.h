@@ -32,6 +32,13 @@ void add_text(struct bytes *b, const char *format, ...) FORMAT(2, 3);
 /* Reads once: how many bytes there were, 0 at the end, -1 with errno. A signal does not end it, nor does a descriptor that would block. */
 ssize_t read_some(int fd, void *to, size_t length);
 
+/* Opens a file to be read, or standard input where `name` is null or `-`; -1 with errno. What was opened is closed; standard input stays open. */
+int open_input(const char *name);
+void close_input(const char *name, int fd);
+
+/* Reads once, behind what is there: how many bytes there were, as `read_some`. */
+ssize_t add_some(int fd, struct bytes *b);
+
 /* Reads a file, or at most its first bytes; standard input where `name` is null or `-`. False with errno, and then there are none. */
 bool read_whole(const char *name, size_t most, struct bytes *b);
 
@@ -41,7 +48,7 @@ enum status write_out(const void *from, size_t length);
 /* Closes standard output, which may be where a write fails after all. */
 enum status close_out(void);
 
-/* How a file is called in what is told. */
+/* How a file is called in what is told: control characters of its name as numbers. */
 const char *name_of(const char *name);
 
 #endif

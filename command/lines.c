@@ -2,6 +2,7 @@
 
 #include <stdarg.h>
 #include <stdio.h>
+#include <stdlib.h>
 #include <string.h>
 
 bool mistake(const struct line *l, const char *format, ...)
@@ -70,20 +71,40 @@ bool is_number_next(const struct line *l)
     return !at_end(l) && l->words[l->next].at[0] >= '0' && l->words[l->next].at[0] <= '9';
 }
 
+/* The number that the first bytes of a word are. */
+static bool is_number(struct word w, size_t length, unsigned most, uint8_t *out)
+{
+    unsigned n = 0;
+    for (size_t i = 0; i < length; i++) {
+        if (w.at[i] < '0' || w.at[i] > '9') return false;
+        n = 10 * n + (unsigned)(w.at[i] - '0');
+        if (n > most) return false;
+    }
+    *out = (uint8_t)n;
+    return length > 0;
+}
+
 bool take_number(struct line *l, const char *what, unsigned most, uint8_t *out)
 {
     char expected[128];
     struct word w = at_end(l) ? (struct word){"", 0} : l->words[l->next];
-    unsigned n = 0;
-    bool is = w.length > 0;
-    for (size_t i = 0; is && i < w.length; i++) {
-        is = w.at[i] >= '0' && w.at[i] <= '9';
-        if (is) n = 10 * n + (unsigned)(w.at[i] - '0');
-        is = is && n <= most;
-    }
     snprintf(expected, sizeof expected, "%s from 0 to %u", what, most);
-    if (!is) return unexpected(l, expected);
-    *out = (uint8_t)n;
+    if (!is_number(w, w.length, most, out)) return unexpected(l, expected);
+    l->next++;
+    return true;
+}
+
+bool is_place_next(const struct line *l)
+{
+    return !at_end(l) && l->words[l->next].at[l->words[l->next].length - 1] == ':';
+}
+
+bool take_place(struct line *l, unsigned most, uint8_t *out)
+{
+    char expected[128];
+    struct word w = l->words[l->next];
+    snprintf(expected, sizeof expected, "a number from 0 to %u with a colon", most);
+    if (!is_number(w, w.length - 1, most, out)) return unexpected(l, expected);
     l->next++;
     return true;
 }
@@ -146,9 +167,11 @@ bool give(const struct line *l, unsigned *given, unsigned field, const char *nam
     return true;
 }
 
-/* The words of a line without its comment; a carriage return is a blank. */
+/* The words of a line without its comment; a carriage return is a blank, and a byte order mark in front of the text is left out. */
 static bool split(struct line *l, const char *at, const char *end)
 {
+    static const char mark[] = "\xef\xbb\xbf";
+    if (l->number == 1 && (size_t)(end - at) >= strlen(mark) && memcmp(at, mark, strlen(mark)) == 0) at += strlen(mark);
     const char *comment = memchr(at, '#', (size_t)(end - at));
     if (comment != NULL) end = comment;
     l->count = l->next = 0;
@@ -162,17 +185,39 @@ static bool split(struct line *l, const char *at, const char *end)
     return true;
 }
 
-enum status read_lines(const char *file, const struct bytes *text, line_reader *read, void *into)
+/* Reads the lines that are whole, at the end of the text the last one too, and keeps what is left; `seen` bytes of it have no line feed. */
+static bool read_whole_lines(struct line *l, struct bytes *text, size_t *seen, bool is_end, line_reader *read, void *into)
 {
-    struct line l = {.file = file};
     const char *at = (const char *)text->at, *end = at + text->length;
-    while (at < end) {
-        const char *feed = memchr(at, '\n', (size_t)(end - at));
+    for (;;) {
+        const char *feed = memchr(at + *seen, '\n', (size_t)(end - at) - *seen);
         const char *stop = feed != NULL ? feed : end;
-        l.number++;
-        if (!split(&l, at, stop)) return REFUSED;
-        if (l.count > 0 && !read(&l, into)) return REFUSED;
+        if (feed == NULL && (!is_end || at == end)) break;
+        l->number++;
+        if (!split(l, at, stop)) return false;
+        if (l->count > 0 && !read(l, into)) return false;
         at = feed != NULL ? feed + 1 : end;
+        *seen = 0;
     }
-    return DONE;
+    *seen = text->length = (size_t)(end - at);
+    memmove(text->at, at, text->length);
+    return true;
+}
+
+enum status read_lines(const char *file, line_reader *read, void *into)
+{
+    struct line l = {.file = name_of(file)};
+    struct bytes text = {0};
+    size_t seen = 0;
+    ssize_t got = 1;
+    int fd = open_input(file);
+    enum status s = fd < 0 ? failed(l.file) : DONE;
+    while (s == DONE && got > 0) {
+        got = add_some(fd, &text);
+        if (got < 0) s = failed(l.file);
+        else if (!read_whole_lines(&l, &text, &seen, got == 0, read, into)) s = REFUSED;
+    }
+    close_input(file, fd);
+    free(text.at);
+    return s;
 }

@@ -24,8 +24,8 @@ struct line {
 /* Reads one line that has words; false after a mistake, which was told. */
 typedef bool line_reader(struct line *l, void *into);
 
-/* Reads a text line by line; blank lines and comments are left out. */
-enum status read_lines(const char *file, const struct bytes *text, line_reader *read, void *into);
+/* Reads the text of a file, or of standard input, line by line; blank lines and comments are left out. */
+enum status read_lines(const char *file, line_reader *read, void *into);
 
 /* Tells a mistake as `file:line: ...`; answers false. */
 bool mistake(const struct line *l, const char *format, ...) FORMAT(2, 3);
@@ -46,6 +46,10 @@ bool is_number_next(const struct line *l);
 
 /* Takes a number from 0 to `most`. */
 bool take_number(struct line *l, const char *what, unsigned most, uint8_t *out);
+
+/* Whether the next word ends with a colon; takes the number before it. */
+bool is_place_next(const struct line *l);
+bool take_place(struct line *l, unsigned most, uint8_t *out);
 
 /* Takes a kind of object, by its number. */
 bool take_kind(struct line *l, uint8_t *kind);

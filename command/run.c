@@ -39,7 +39,7 @@ static enum status answer_input(hv_facility *f, answer *say)
 static hv_reading read_setup(const char *file, enum status *refused)
 {
     struct bytes setup = {0};
-    *refused = read_whole(file, SETUP_READ, &setup) ? REFUSED : failed(file);
+    *refused = read_whole(file, SETUP_READ, &setup) ? REFUSED : failed(name_of(file));
     hv_reading r = reading_of(&setup);
     free(setup.at);
     return r;

@@ -63,7 +63,7 @@ enum status setup_to_text(const char *file)
         add_records(&text, &setup);
         s = write_out(text.at, text.length);
     } else {
-        add_refusal(&text, &setup, &r);
+        add_refusal(&text, &setup, setup.length == SETUP_READ, &r);
         tell("%s: %.*s", name_of(file), (int)text.length, (const char *)text.at);
     }
     free(text.at);
@@ -181,14 +181,11 @@ static bool read_object(struct line *l, uint8_t *r)
 }
 
 /* `user 3:` says which one it is meant to be, so that a line put in between does not turn the later numbers into others. */
-static bool take_place(struct line *l, const char *what, unsigned is)
+static bool read_place(struct line *l, const char *what, unsigned is)
 {
-    if (at_end(l)) return true;
-    struct word *w = &l->words[l->next];
-    if (w->at[w->length - 1] != ':') return true;
     uint8_t number = 0;
-    w->length--;
-    if (!take_number(l, "a number with a colon,", 254, &number)) return false;
+    if (!is_place_next(l)) return true;
+    if (!take_place(l, 254, &number)) return false;
     return number == is ? true : mistake(l, "this is %s %u, not %u", what, is, number);
 }
 
@@ -202,10 +199,10 @@ static bool read_record(struct line *l, void *into)
         is = read_switches(l, r);
     } else if (accept(l, "user")) {
         r[0] = HV_USER_RECORD;
-        is = take_place(l, "user", t->users++) && read_user(l, r);
+        is = read_place(l, "user", t->users++) && read_user(l, r);
     } else if (accept(l, "object")) {
         r[0] = HV_OBJECT_RECORD;
-        is = take_place(l, "object", t->objects++) && read_object(l, r);
+        is = read_place(l, "object", t->objects++) && read_object(l, r);
     } else {
         return unexpected(l, "switches, user or object");
     }
@@ -222,7 +219,7 @@ static enum status tell_refused(const char *file, const struct setup_text *t, co
     struct line l = {.file = file, .number = 1};
     size_t index = r->number != HV_SETUP_LENGTH ? r->index : RECORDS_MOST;
     if (t->bytes.length > RECORD * index) l.number = t->lines[index];
-    add_refusal(&why, &t->bytes, r);
+    add_refusal(&why, &t->bytes, false, r);
     mistake(&l, "%.*s", (int)why.length, (const char *)why.at);
     free(why.at);
     return REFUSED;
@@ -230,15 +227,12 @@ static enum status tell_refused(const char *file, const struct setup_text *t, co
 
 enum status setup_from_text(const char *file)
 {
-    struct bytes text = {0};
     struct setup_text t = {0};
-    if (!read_whole(file, SIZE_MAX, &text)) return failed(name_of(file));
-    enum status s = read_lines(name_of(file), &text, read_record, &t);
+    enum status s = read_lines(file, read_record, &t);
     if (s == DONE) {
         hv_reading r = reading_of(&t.bytes);
         s = r.number == HV_ACCEPTED ? write_out(t.bytes.at, t.bytes.length) : tell_refused(name_of(file), &t, &r);
     }
     free(t.bytes.at);
-    free(text.at);
     return s;
 }

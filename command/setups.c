@@ -10,14 +10,14 @@ hv_reading reading_of(const struct bytes *setup)
     return hv_read_setup(setup->at, setup->length);
 }
 
-void add_refusal(struct bytes *b, const struct bytes *setup, const hv_reading *r)
+void add_refusal(struct bytes *b, const struct bytes *setup, bool is_cut, const hv_reading *r)
 {
     if (r->number == HV_SETUP_LENGTH) {
         /* No record is at fault. */
         add_text(b, "refused: %d ", r->number);
         add_number(b, r->number);
         add_text(b, " (%zu byte%s%s; a multiple of %d from %d to %d)", setup->length, setup->length == 1 ? "" : "s",
-                 setup->length < SETUP_READ ? "" : " or more", RECORD, RECORD, HV_SETUP_MOST);
+                 is_cut ? " or more" : "", RECORD, RECORD, HV_SETUP_MOST);
         return;
     }
     add_text(b, "refused at record %d (", r->index);
@@ -45,7 +45,7 @@ enum status check_setup(const char *file)
         add_text(&line, ", ");
         add_count(&line, s.entered, "object");
     } else {
-        add_refusal(&line, &setup, &r);
+        add_refusal(&line, &setup, setup.length == SETUP_READ, &r);
     }
     add_text(&line, "\n");
     enum status written = write_out(line.at, line.length);

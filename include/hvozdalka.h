@@ -31,7 +31,8 @@
  * the sender's matter, and with MAC on its read mark is its current label, unless its owner is trusted. What else passes from one process to another
  * is in no account here, so the desktop must not let it pass.
  *
- * Bytes are passed as a pointer and a length. With length 0 the pointer may be anything, also NULL; `out` must not overlap other arguments.
+ * Bytes are passed as a pointer and a length. With length 0 the pointer may be anything, also NULL. What is written, `out` or a facility that is changed
+ * where it is, must not overlap any other argument.
  */
 #ifndef HVOZDALKA_H
 #define HVOZDALKA_H

@@ -401,6 +401,7 @@ check(words.tell(FF_ON + thing(1, 0, 0, 0, RO + ND) + thing(0, 255, 0, 0, ADD + 
       "then user 0, general, untrusted, clearance 9, current 0, marks 0 to 15 all, automatic, moved 0 times of at most 10; refusals of user 0: 1",
       "FF in words")
 check(words.tell(KINDS + thing(0, 0, 0, 0, 0, 1), b""), ["set-up refused at record 6: 19 parent is no earlier directory"], "19 in words")
+check(words.tell(b"", b""), ["set-up refused: 14 length is not allowed"], "14 in words")
 
 # --- Matter ---------------------------------------------------------------
 

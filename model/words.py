@@ -121,7 +121,8 @@ def sentence(index, facility, call):
 def tell(setup, calls):
     number, index, facility = model.read_setup(setup)
     if number != 0:
-        return ["set-up refused at record %d: %d %s" % (index, number, NUMBERS[number])]
+        place = "" if number == 14 else " at record %d" % index      # of a length that is not allowed no record is at fault
+        return ["set-up refused%s: %d %s" % (place, number, NUMBERS[number])]
     lines = [sentence(i // 4 + 1, facility, tuple(calls[i:i + 4])) for i in range(0, len(calls) - 3, 4)]
     return lines + (["short"] if len(calls) % 4 else [])
 

@@ -1,2 +1,3 @@
 -- Facts that several proofs cite.
 pub mod Front
+pub mod Said

@@ -1,2 +1,3 @@
--- What is known of what a program reads.
+-- What is known of what a program reads and writes.
 pub mod Files
+pub mod Examples

@@ -1,21 +1,31 @@
-// What the programs share: a set-up from a file, calls from standard input, lines to standard output. No contract can say which bytes a file has, so
-// these say what is known of any bytes. What cannot be read or written is told on standard error.
+// What the programs share: a set-up from a file, calls from standard input, lines to standard output. No contract can say which bytes the system gives or
+// takes; what it said of the last read or write is part of each result, and the rest is defined by it. What cannot be read or written is told on standard
+// error.
 ghost use Prim.Native.Nat.{_≤_, _+_, min};
 ghost use mathlib.Core.Path.{_≡_};
-ghost use mathlib.Core.List.{[]};
-ghost use lib.ListN.{length};
+ghost use lib.ListN.{length, take};
 ghost use Rattle.io.specs.Counts.{Counts};
-ghost use Rattle.console.specs.Files.{Continues, OfSomeBytes, SameFront, keptFrom};
+ghost use Rattle.libc.specs.Io.{Moved};
+ghost use Rattle.rules.specs.Setup.{readSetup};
+ghost use Rattle.console.specs.Files.{CallsRead, WholeFile, keptFrom, keptIn, nothingKept};
+ghost use Rattle.console.specs.Files.{bytesSaid, failureSaid, moreSaid, wholeCalls, writtenOf};
 use rules::Reading;
 
 // More than a program can try: a proved loop has to end.
 const TRIES: u64 = 1 << 53;
 
-// What a read came to: how many bytes the front of the buffer has now, whether there may be more, and whether it failed.
+// What a read came to: how many bytes the front of the buffer has now, and what the system said. Where the buffer was full, and nothing was asked of the
+// system, that is 0, as for a read of no bytes.
 struct Got {
     total: usize,
-    more: bool,
-    failed: bool,
+    said: isize,
+}
+
+// What was read of a set-up: what it came to, how many bytes it has, and what the system said of the last read.
+pub struct SetupRead {
+    pub reading: Reading,
+    pub count: usize,
+    pub said: isize,
 }
 
 // The bytes of a call that is not whole yet: how many there are, at most three, and each of them.
@@ -28,7 +38,7 @@ pub struct Kept {
 
 // Before the first read nothing is kept.
 pub fn nothing_kept() -> Kept
-    ensures { λ r. ⌜ r ≡ keptFrom [] 0 0 ⌝ }
+    ensures { λ r. ⌜ r ≡ nothingKept ⌝ }
 {
     Kept {
         count: 0,
@@ -38,12 +48,20 @@ pub fn nothing_kept() -> Kept
     }
 }
 
-// What there is of the calls: how many bytes of the buffer are to be lined now, those that are kept for the next read, and whether there may be more.
+// What there is of the calls: how many bytes of the buffer are to be lined now, those that are kept for the next read, whether there may be more, and
+// whether the read failed; all by what the system said.
 pub struct Input {
     pub lined: usize,
     pub kept: Kept,
     pub more: bool,
     pub failed: bool,
+    pub said: isize,
+}
+
+// What was written: how many bytes of the text the system took, and whether these are all.
+pub struct Written {
+    pub taken: usize,
+    pub all: bool,
 }
 
 // Whether a read or a write that failed is to be tried again: a signal came between, or the descriptor would block, while which others may run.
@@ -59,8 +77,23 @@ fn again() -> bool {
     false
 }
 
+// Whether there may be more, and whether it failed, by what the system said of a read.
+fn is_more(said: isize) -> bool
+    ensures { λ r. ⌜ r ≡ moreSaid said ⌝ }
+{
+    said > 0
+}
+
+fn is_failure(said: isize) -> bool
+    ensures { λ r. ⌜ r ≡ failureSaid said ⌝ }
+{
+    said < 0
+}
+
 // Reads what there is, and answers how many bytes it put at the start of the buffer, 0 at the end of the input, or -1 where it failed, which is told.
-fn read_some(fd: i32, what: &[u8], bytes: &mut [u8]) -> isize {
+fn read_some(fd: i32, what: &[u8], bytes: &mut [u8]) -> isize
+    ensures { λ r. ⌜ Moved (length (now (bytes .entry))) r ⌝ }
+{
     let mut k: u64 = 0;
     while k < TRIES {
         let got = libc::read(fd, bytes);
@@ -79,36 +112,24 @@ fn read_some(fd: i32, what: &[u8], bytes: &mut [u8]) -> isize {
 // Reads what there is behind the first bytes of the buffer, which are kept.
 fn read_behind(fd: i32, what: &[u8], bytes: &mut [u8], kept: usize) -> Got
     ensures { λ r. ⌜ Counts (r .total) (now (bytes .exit)) ⌝ }
-    ensures { λ r. ⌜ min kept (length (now (bytes .exit))) ≤ r .total ⌝ }
-    ensures { λ r. ⌜ SameFront kept (now (bytes .entry)) (now (bytes .exit)) ⌝ }
+    ensures { λ r. ⌜ r .total ≡ min kept (length (now (bytes .exit))) + bytesSaid (r .said) ⌝ }
+    ensures { λ r. ⌜ take kept (now (bytes .exit)) ≡ take kept (now (bytes .entry)) ⌝ }
 {
     let n = bytes.len();
     if kept >= n {
-        return Got {
-            total: n,
-            more: false,
-            failed: false,
-        };
+        return Got { total: n, said: 0 };
     }
-    let got = read_some(fd, what, &mut bytes[kept..]);
-    if got < 0 {
-        return Got {
-            total: kept,
-            more: false,
-            failed: true,
-        };
-    }
-    let total = kept + io::count(got, &bytes[kept..]);
+    let said = read_some(fd, what, &mut bytes[kept..]);
     Got {
-        total,
-        more: got > 0,
-        failed: false,
+        total: kept + io::count(said, &bytes[kept..]),
+        said,
     }
 }
 
 // The bytes that were kept go to the front of the buffer; how many there are.
 fn put_kept(bytes: &mut [u8], kept: Kept) -> usize
-    ensures { λ r. ⌜ Continues kept (now (bytes .exit)) r ⌝ }
+    ensures { λ r. ⌜ r ≡ length (keptIn kept (now (bytes .exit))) ⌝ }
+    ensures { λ r. ⌜ take r (now (bytes .exit)) ≡ keptIn kept (now (bytes .exit)) ⌝ }
 {
     if bytes.len() < 4 {
         return 0;
@@ -134,6 +155,7 @@ fn kept_from(bytes: &[u8], from: usize, to: usize) -> Kept
 
 // How many bytes are lined: those of whole calls, and at the end of the input all.
 fn to_line(total: usize, more: bool) -> usize
+    ensures { λ r. ⌜ r ≡ wholeCalls total more ⌝ }
     ensures { λ r. ⌜ r ≤ total ⌝ }
 {
     if more {
@@ -144,64 +166,72 @@ fn to_line(total: usize, more: bool) -> usize
 
 // Reads what there is of the calls on standard input, behind the bytes that were kept: none of these is lost, and none of those behind what is lined.
 pub fn read_calls(bytes: &mut [u8], kept: Kept) -> Input
+    ensures { λ r. ⌜ CallsRead kept (now (bytes .exit)) r ⌝ }
     ensures { λ r. ⌜ Counts (r .lined) (now (bytes .exit)) ⌝ }
-    ensures { λ r. ⌜ r .kept ≡ keptFrom (now (bytes .exit)) (r .lined) (r .lined + r .kept .count) ⌝ }
-    ensures { λ r. ⌜ Continues kept (now (bytes .exit)) (r .lined + r .kept .count) ⌝ }
 {
     let n = put_kept(bytes, kept);
     let got = read_behind(libc::STDIN_FILENO, b"standard input", bytes, n);
     let total = got.total;
-    let lined = to_line(total, got.more);
+    let said = got.said;
+    let more = is_more(said);
+    let lined = to_line(total, more);
     Input {
         lined,
         kept: kept_from(bytes, lined, total),
-        more: got.more,
-        failed: got.failed,
+        more,
+        failed: is_failure(said),
+        said,
     }
 }
 
-// Reads an open file to the front of a buffer, as much as there is room for, and answers how many bytes; none where it cannot be read.
-fn read_whole(fd: i32, what: &[u8], bytes: &mut [u8]) -> usize
-    ensures { λ r. ⌜ Counts r (now (bytes .exit)) ⌝ }
+// Reads an open file to the front of a buffer, as much as there is room for; no byte counts where it cannot be read.
+fn read_whole(fd: i32, what: &[u8], bytes: &mut [u8]) -> Got
+    ensures { λ r. ⌜ WholeFile (now (bytes .exit)) (r .total) (r .said) ⌝ }
 {
     let mut total: usize = 0;
     let mut k: u64 = 0;
     while k < TRIES {
         let got = read_behind(fd, what, bytes, total);
-        if got.failed {
-            return 0;
+        let said = got.said;
+        if is_failure(said) {
+            return Got { total: 0, said };
         }
-        if !got.more {
-            return got.total;
+        if !is_more(said) {
+            return got;
         }
         total = got.total;
         k += 1;
     }
-    0
+    Got { total: 0, said: -1 }
 }
 
-// Reads a file, and answers how many bytes; none where it cannot be read, which is told.
-fn read_file(path: &[u8], bytes: &mut [u8]) -> usize
-    ensures { λ r. ⌜ Counts r (now (bytes .exit)) ⌝ }
+// Reads a file; no byte counts where it cannot be read, which is told.
+fn read_file(path: &[u8], bytes: &mut [u8]) -> Got
+    ensures { λ r. ⌜ WholeFile (now (bytes .exit)) (r .total) (r .said) ⌝ }
 {
     let fd = os::open_read(path);
     if fd < 0 {
         os::fail(path);
-        return 0;
+        return Got { total: 0, said: -1 };
     }
-    let n = read_whole(fd, path, bytes);
+    let got = read_whole(fd, path, bytes);
     libc::close(fd);
-    n
+    got
 }
 
-// Reads the set-up in `setup.bin`, in the folder where the program is started. Every allowed length is far below 65,536, so that of a longer
-// file the front is refused as the whole would be.
-pub fn read_setup() -> Reading
-    ensures { λ r. ⌜ OfSomeBytes r ⌝ }
+// Reads the set-up in `setup.bin`, in the folder where the program is started, to the front of a buffer. Every allowed length is far below 65,536, so that
+// of a longer file the front is refused as the whole would be, where the buffer has so many bytes.
+pub fn read_setup(bytes: &mut [u8]) -> SetupRead
+    ensures { λ r. ⌜ WholeFile (now (bytes .exit)) (r .count) (r .said) ⌝ }
+    ensures { λ r. ⌜ r .reading ≡ readSetup (take (r .count) (now (bytes .exit))) ⌝ }
 {
-    let mut bytes = io::large_buffer();
-    let n = read_file(b"setup.bin", &mut bytes);
-    setup::read_setup(&bytes[..n])
+    let got = read_file(b"setup.bin", bytes);
+    let count = got.total;
+    SetupRead {
+        reading: setup::read_setup(&bytes[..count]),
+        count,
+        said: got.said,
+    }
 }
 
 // Writes what it can of a text, and answers how many bytes; none where it failed.
@@ -214,6 +244,13 @@ fn write_some(text: &[u8]) -> usize
         if put > 0 {
             return io::count(put, text);
         }
+        if put == 0 {
+            io::write_all(
+                libc::STDERR_FILENO,
+                b"standard output: No space left on device\n",
+            );
+            return 0;
+        }
         if !again() {
             os::fail(b"standard output");
             return 0;
@@ -223,15 +260,18 @@ fn write_some(text: &[u8]) -> usize
     0
 }
 
-// Writes all lines, and answers whether it could.
-pub fn write_lines(text: &[u8]) -> bool {
-    let mut done: usize = 0;
-    while done < text.len() {
-        let put = write_some(&text[done..]);
+// Writes all lines, or as many bytes as the system takes.
+pub fn write_lines(text: &[u8]) -> Written
+    ensures { λ r. ⌜ r ≡ writtenOf (now (text .entry)) (r .taken) ⌝ }
+    ensures { λ r. ⌜ r .taken ≤ length (now (text .entry)) ⌝ }
+{
+    let mut taken: usize = 0;
+    while taken < text.len() {
+        let put = write_some(&text[taken..]);
         if put == 0 {
-            return false;
+            return Written { taken, all: false };
         }
-        done += put;
+        taken += put;
     }
-    true
+    Written { taken, all: true }
 }

@@ -10,6 +10,9 @@ use state::Change;
 use state::Object;
 use state::Process;
 
+// The first number that is no request.
+const NO_REQUEST: u8 = requests::LAST + 1;
+
 // What a created object inherits by: a file or a directory has the flag and the directory t that it is made in as parent.
 fn first_flags(kind: u8) -> u8
     ensures { λ x. ⌜ x ≡ firstFlags kind ⌝ }
@@ -41,7 +44,7 @@ fn created(r: Process, kind: u8, t: u8) -> Object
         live: 1,
         kind,
         label,
-        category: 0,
+        category: rules::GENERAL_CATEGORY,
         datatype: 0,
         flags,
         parent,
@@ -79,25 +82,25 @@ fn change_of(v: View, c: Call) -> Change
 {
     let request = c.request;
     match request {
-        2 => Change::CloneProcess {
+        rules::CLONE_REQUEST => Change::CloneProcess {
             p: c.process,
             t: c.target,
         },
-        4 => change_of_create(v, c),
-        16 => Change::PutProcess {
+        rules::CREATE_REQUEST => change_of_create(v, c),
+        rules::SEND_SIGNAL_REQUEST => Change::PutProcess {
             p: c.target,
             r: modules::signalled(v),
         },
-        17 => Change::PutProcess {
+        rules::SET_LEVEL_REQUEST => Change::PutProcess {
             p: c.process,
             r: modules::levelled(v, c),
         },
-        18 => Change::EndProcess { p: c.process },
-        21 => Change::PutProcess {
+        rules::TERMINATE_REQUEST => Change::EndProcess { p: c.process },
+        rules::LOGIN_REQUEST => Change::PutProcess {
             p: c.process,
             r: Process::fresh(c.extra),
         },
-        22..=255 => Change::NoChange,
+        NO_REQUEST..=255 => Change::NoChange,
         _ => change_on_object(v, c),
     }
 }

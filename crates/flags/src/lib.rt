@@ -96,17 +96,19 @@ pub fn source_at<'a>(lives: &'a [u8], flags: &'a [u8], parents: &'a [u8], t: u8,
 pub fn forbidding(v: u8, request: u8, k: Class, kind: u8) -> u8
     ensures { λ r. ⌜ r ≡ forbidding v request k kind ⌝ }
 {
-    let changes = requests::alters(k) | (request == 19);
+    let changes = requests::alters(k) | (request == rules::WRITE_REQUEST);
     if has(READ_ONLY, v) & changes {
         return READ_ONLY;
     }
-    if has(NO_EXECUTE, v) & (request == 7) {
+    if has(NO_EXECUTE, v) & (request == rules::EXECUTE_REQUEST) {
         return NO_EXECUTE;
     }
-    if has(NO_DELETE, v) & (request == 5) {
+    if has(NO_DELETE, v) & (request == rules::DELETE_REQUEST) {
         return NO_DELETE;
     }
-    if has(SEARCH_ONLY, v) & ((kind == 1) & (request != 15)) {
+    if has(SEARCH_ONLY, v)
+        & ((kind == rules::DIRECTORY_KIND) & (request != rules::SEARCH_REQUEST))
+    {
         return SEARCH_ONLY;
     }
     0

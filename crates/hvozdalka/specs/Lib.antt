@@ -1,2 +1,3 @@
 -- What C is given.
 pub mod Numbers
+pub mod Examples

@@ -2,7 +2,7 @@
 use Prim.Native.Nat.{ℕ, _≤_, _<_}
 use mathlib.Core.Path.{_≡_}
 use mathlib.Core.Bool.{true, false}
-use Rattle.labels.specs.Labels.{Label, label, _⊑_, same, join, meet, bottom, top, rank}
+use Rattle.labels.specs.Labels.{Label, label, _⊑_, same, join, meet, bottom, top, rank, topLevel, allCategories}
 
 pub record LabelLaws : Type 0 where
   pub reflexive : (a : Label) → a ⊑ a
@@ -19,8 +19,8 @@ pub record LabelLaws : Type 0 where
   pub belowFirst : (a b : Label) → meet a b ⊑ a
   pub belowSecond : (a b : Label) → meet a b ⊑ b
   pub greatest : (a b c : Label) → c ⊑ a → c ⊑ b → c ⊑ meet a b
-  -- the bottom is below every label, the top above every label of a level up to 15 and eight categories
+  -- the bottom is below every label, the top above every label of a level up to the highest and eight categories
   pub bottomBelow : (a : Label) → bottom ⊑ a
-  pub topAbove : (n s : ℕ) → n ≤ 15 → s ≤ 255 → label n s ⊑ top
+  pub topAbove : (n s : ℕ) → n ≤ topLevel → s ≤ allCategories → label n s ⊑ top
   -- a label that dominates another one has the higher rank
   pub higher : (a b : Label) → a ⊑ b → same a b ≡ false → rank a < rank b

@@ -16,6 +16,10 @@ Label = DeclaredLabel
 abbrev pub unset : ℕ
 unset = 255
 
+-- the highest level
+abbrev pub topLevel : ℕ
+topLevel = 15
+
 -- the set of all eight categories
 abbrev pub allCategories : ℕ
 allCategories = 255
@@ -50,12 +54,12 @@ join a b = label (larger (a .level) (b .level)) (bitOr (a .set) (b .set))
 unfoldable pub meet : Label → Label → Label
 meet a b = label (smaller (a .level) (b .level)) (bitAnd (a .set) (b .set))
 
--- where a process starts: its current label and read mark at the bottom, its write mark at the top, 15 with all eight
+-- where a process starts: its current label and read mark at the bottom, its write mark at the top, the highest level with all eight
 unfoldable pub bottom : Label
 bottom = label 0 0
 
 unfoldable pub top : Label
-top = label 15 allCategories
+top = label topLevel allCategories
 
 -- a label that a process may have; and whether an object's label is set
 abbrev pub lawful : Label → Bool

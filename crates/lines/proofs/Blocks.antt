@@ -13,7 +13,7 @@ use Rattle.rules.specs.Histories.{run}
 use Rattle.rules.specs.Calls.{after, query}
 use Rattle.rules.specs.Lines.{callsOf, callLines, callLine, shortLine}
 use Rattle.history.specs.CallBytes.{callFrom}
-use Rattle.history.specs.Laws.CallBytes.{calls-more, no-calls, run-more, run-done}
+use Rattle.history.specs.Laws.CallBytes.{calls-joined, calls-more, no-calls, run-more, run-done}
 use Rattle.text.specs.Stored.{Stored}
 use Rattle.text.specs.Laws.Stored.{then, as-text}
 use Rattle.state.specs.declared.Call.{Call}
@@ -153,17 +153,6 @@ short-most calls =
     by-eq (length calls % 4) 0
     (λ e. let d = ap length (not-short calls e) in omega arith)
     (λ n. let d = ap length (is-short calls n) in omega arith)
-
--- Blocks whose length is a multiple of 4, one after the other, are the calls of them all.
-calls-joined : (a b : List ℕ) → length a % 4 ≡ 0 → callsOf (a ++ b) ≡ callsOf a ++ callsOf b
-unfolding callsOf
-calls-joined [] b h = refl
-calls-joined (w ∷ []) b h = absurd (omega arith)
-calls-joined (w ∷ x ∷ []) b h = absurd (omega arith)
-calls-joined (w ∷ x ∷ y ∷ []) b h = absurd (omega arith)
-calls-joined (w ∷ x ∷ y ∷ z ∷ a) b h =
-    let k : length a % 4 ≡ 0 = omega arith in
-    ap (λ (cs : List Call). record { request = w; process = x; target = y; extra = z } ∷ cs) (calls-joined a b k)
 
 calls-count : (a : List ℕ) → length a % 4 ≡ 0 → length (callsOf a) ≡ length a / 4
 unfolding callsOf

@@ -103,29 +103,30 @@ fn row(words: &[u64], r: u8) -> Members
     Members { low, high }
 }
 
-// Read (12) of a file or channel, and every R but read-open (13).
+// Read of a file or channel, and every R but read-open.
 fn takes(request: u8, k: Class) -> bool
     ensures { λ r. ⌜ r ≡ takes request k ⌝ }
 {
     match k {
         Class::Absent => false,
-        Class::Reads => request != 13,
+        Class::Reads => request != rules::READ_OPEN_REQUEST,
         Class::Writes => false,
         Class::Both => false,
-        Class::NoCondition => request == 12,
+        Class::NoCondition => request == rules::READ_REQUEST,
     }
 }
 
-// Write (19), and every W but write-open (20), delete (5) and create (4).
+// Write, and every W but write-open, delete and create.
 fn gives(request: u8, k: Class) -> bool
     ensures { λ r. ⌜ r ≡ gives request k ⌝ }
 {
     match k {
         Class::Absent => false,
         Class::Reads => false,
-        Class::Writes => (request != 20) & ((request != 5) & (request != 4)),
+        Class::Writes => (request != rules::WRITE_OPEN_REQUEST)
+            & ((request != rules::DELETE_REQUEST) & (request != rules::CREATE_REQUEST)),
         Class::Both => false,
-        Class::NoCondition => request == 19,
+        Class::NoCondition => request == rules::WRITE_REQUEST,
     }
 }
 

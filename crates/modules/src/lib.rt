@@ -87,16 +87,16 @@ fn fc_rule(o: Object, u: User) -> Answer
     if o.category == labels::UNSET {
         return Answer::Undefined;
     }
-    Answer::grant((o.category == 0) | (o.category == u.role))
+    Answer::grant((o.category == rules::GENERAL_CATEGORY) | (o.category == u.role))
 }
 
 // SIM on an object.
 fn sim_rule(request: u8, k: Class, o: Object, u: User) -> Answer
     ensures { λ x. ⌜ x ≡ simRule request k o u ⌝ }
 {
-    let changes = requests::alters(k) | (request == 19);
-    if changes & (o.datatype == 1) {
-        return Answer::grant(u.role == 1);
+    let changes = requests::alters(k) | (request == rules::WRITE_REQUEST);
+    if changes & (o.datatype == rules::SECURITY_INFORMATION) {
+        return Answer::grant(u.role == rules::SECURITY_OFFICER);
     }
     Answer::NotCared
 }

@@ -5,11 +5,12 @@ use lib.Dec.{leb, ltb, eqb}
 use Rattle.answers.specs.declared.Answer.{Answer}
 use Rattle.state.specs.declared.Call.{Call}
 use Rattle.labels.specs.Decisions.{asked, ask, on, _and_}
+use Rattle.labels.specs.Labels.{topLevel}
 use Rattle.answers.specs.Answers.{isNotGranted, isUndefined}
 use Rattle.rules.specs.declared.Action.{Action}
 use Rattle.rules.specs.declared.View.{View}
 use Rattle.rules.specs.declared.Runs.{Runs}
-use Rattle.rules.specs.Requests.{isSetLevel, isAbsent, isNoCondition, isCreate, needsObject, lastRequest, isLogin, actionOf}
+use Rattle.rules.specs.Requests.{isSetLevel, isAbsent, isNoCondition, isCreate, needsObject, lastRequest, isLogin, actionOf, lastKind}
 use Rattle.rules.specs.Questions.{roomFor, openFor, inRange, isRunning, isFree, numberBy}
 use Rattle.rules.specs.Modules.{classIn, answers}
 use Rattle.answers.specs.declared.Outcome.{Outcome}
@@ -19,14 +20,14 @@ use Rattle.answers.specs.Outcomes.{noObject, outcomeOf}
 unfoldable pub lateNumber : Action → View → Call → Answer → ℕ
 lateNumber k v c a =
     ask (roomFor k v c) 10
-    (ask (asked (isSetLevel k) (leb (c .extra) 15)) 11
+    (ask (asked (isSetLevel k) (leb (c .extra) topLevel)) 11
     (ask (not (isNotGranted a)) 12
     (ask (not (isUndefined a)) 13 0)))
 
 -- questions 8, 6, 7 and 9, and then the later ones
 unfoldable pub objectNumber : Action → View → Call → ℕ → ℕ
 objectNumber k v c later =
-    ask (asked (isCreate k) (leb (c .extra) 3)) 8
+    ask (asked (isCreate k) (leb (c .extra) lastKind)) 8
     (ask (asked (needsObject k (c .extra)) (on (v .target .object .live))) 6
     (ask (asked (needsObject k (c .extra)) (not (isAbsent (classIn v c)))) 7
     (ask (asked (needsObject k (c .extra)) (asked (isNoCondition (classIn v c)) (openFor v c))) 9 later)))

@@ -14,6 +14,7 @@ use rules::Action;
 use rules::Runs;
 use rules::View;
 use state::Call;
+use state::Process;
 
 // A question that is put only where `put` says so.
 fn only_if(put: bool, answer: bool) -> bool
@@ -58,10 +59,10 @@ fn open_for(v: View, c: Call) -> bool
 {
     let reads = opens::reading(v.target.opens);
     let writes = opens::writing(v.target.opens);
-    if c.request == 12 {
+    if c.request == rules::READ_REQUEST {
         return reads;
     }
-    if c.request == 19 {
+    if c.request == rules::WRITE_REQUEST {
         return writes;
     }
     reads | writes
@@ -78,7 +79,7 @@ fn room_for(k: Action, v: View, c: Call) -> bool
 fn late_number(k: Action, v: View, c: Call, combined: Answer) -> u8
     ensures { λ r. ⌜ r ≡ lateNumber k v c combined ⌝ }
 {
-    let level = only_if(requests::is_set_level(k), c.extra <= 15);
+    let level = only_if(requests::is_set_level(k), c.extra <= Process::TOP);
     let n13 = labels::ask(!combined.is_undefined(), 13, 0);
     let n12 = labels::ask(!combined.is_not_granted(), 12, n13);
     let n11 = labels::ask(level, 11, n12);
@@ -95,7 +96,11 @@ fn object_number(k: Action, v: View, c: Call, later: u8) -> u8
     let n9 = labels::ask(only_if(target, open), 9, later);
     let n7 = labels::ask(only_if(target, !requests::is_absent(class)), 7, n9);
     let n6 = labels::ask(only_if(target, v.target.object.live == 1), 6, n7);
-    labels::ask(only_if(requests::is_create(k), c.extra <= 3), 8, n6)
+    labels::ask(
+        only_if(requests::is_create(k), c.extra <= rules::LAST_KIND),
+        8,
+        n6,
+    )
 }
 
 // Questions 1 to 5, and then the later ones.

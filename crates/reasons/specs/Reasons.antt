@@ -16,13 +16,13 @@ use Rattle.state.specs.declared.User.{User}
 use Rattle.state.specs.State.{isAutomatic}
 use Rattle.rules.specs.FileFlags.{forbidding}
 use Rattle.rules.specs.declared.View.{View}
-use Rattle.rules.specs.Modules.{viewOf, classIn, wanted}
+use Rattle.rules.specs.Modules.{viewOf, classIn, wanted, generalCategory, securityInformation, securityOfficer}
 use Rattle.rules.specs.Questions.{number}
 use Rattle.rules.specs.declared.Action.{Action}
 use Rattle.rules.specs.declared.Action.the-variants.{Login, Clone, SendSignal, SetLevel, Terminate, Create, OnObject, Unknown}
 use Rattle.rules.specs.declared.Class.{Class}
 use Rattle.rules.specs.declared.Class.the-variants.{Absent, Reads, Writes, Both, NoCondition}
-use Rattle.rules.specs.Requests.{actionOf, alters, needsObject}
+use Rattle.rules.specs.Requests.{actionOf, alters, needsObject, writeRequest}
 
 abbrev pub nothingOfMac : MacFailed
 nothingOfMac = record { unset = false; fixed = false; clearance = false; writemark = false; readmark = false; receiver = false }
@@ -118,14 +118,14 @@ unfoldable pub categoryFailed : Action → View → Call → Bool
 categoryFailed k v c =
     (on (v .switches .fc) and needsObject k (c .extra))
     and not (eqb (v .target .object .category) unset)
-    and not (eqb (v .target .object .category) 0 or eqb (v .target .object .category) (v .owner .role))
+    and not (eqb (v .target .object .category) generalCategory or eqb (v .target .object .category) (v .owner .role))
 
 -- SIM: for class W or B, or write, security information, and another role than security officer
 unfoldable pub dataTypeFailed : Action → View → Call → Bool
 dataTypeFailed k v c =
     (on (v .switches .sim) and needsObject k (c .extra))
-    and ((alters (classIn v c) or eqb (c .request) 19) and eqb (v .target .object .datatype) 1)
-    and not (eqb (v .owner .role) 1)
+    and ((alters (classIn v c) or eqb (c .request) writeRequest) and eqb (v .target .object .datatype) securityInformation)
+    and not (eqb (v .owner .role) securityOfficer)
 
 -- FF: the first flag that forbids, 0 where none does
 unfoldable pub flagFailed : Action → View → Call → ℕ

@@ -210,9 +210,10 @@ fn failed_in(k: Action, v: View, c: Call) -> Failed
     let target = requests::needs_object(k, c.extra);
     let fc = (v.switches.fc == 1) & target;
     let unset = v.target.object.category == labels::UNSET;
-    let fits = (v.target.object.category == 0) | (v.target.object.category == v.owner.role);
-    let changes = requests::alters(modules::class_in(v, c)) | (c.request == 19);
-    let guarded = changes & (v.target.object.datatype == 1);
+    let fits = (v.target.object.category == rules::GENERAL_CATEGORY)
+        | (v.target.object.category == v.owner.role);
+    let changes = requests::alters(modules::class_in(v, c)) | (c.request == rules::WRITE_REQUEST);
+    let guarded = changes & (v.target.object.datatype == rules::SECURITY_INFORMATION);
     Failed {
         unset: m.unset,
         fixed: m.fixed,
@@ -222,7 +223,8 @@ fn failed_in(k: Action, v: View, c: Call) -> Failed
         receiver: m.receiver,
         nocategory: fc & unset,
         category: fc & (!unset & !fits),
-        datatype: ((v.switches.sim == 1) & target) & (guarded & !(v.owner.role == 1)),
+        datatype: ((v.switches.sim == 1) & target)
+            & (guarded & !(v.owner.role == rules::SECURITY_OFFICER)),
         flag: flag_failed(k, v, c),
     }
 }

@@ -1,6 +1,6 @@
--- The constant table of class codes is document 01's four lists: one computed test.
+-- The constant table of class codes is document 01's four lists: what its computed test says of a request and a kind.
 use Prim.Native.Nat.{ℕ, _≤_, _<_, _+_, _*_, _/_, _%_, _^_, zero, suc}
-use mathlib.Core.Path.{_≡_, refl, sym, _∙_, ap₂}
+use mathlib.Core.Path.{_≡_, refl, _∙_, ap₂, subst⁻¹}
 use mathlib.Core.Bool.{Bool, true}
 use mathlib.Core.List.{List, [], _∷_}
 use mathlib.Core.Logic.{_≢_}
@@ -9,11 +9,10 @@ use native.Mathlib.Omega.{arith}
 use borrow.Author.Tests.{leb-true, ne-eqb, eqb-true}
 use Rattle.rules.specs.declared.Class.{Class}
 use Rattle.rules.specs.declared.Class.the-variants.{Absent, Reads, Writes, Both, NoCondition}
-use Rattle.requests.specs.ClassCodes.{classNamed, classWords}
-use Rattle.rules.specs.Requests.{classCode, lastRequest, Listed, classAmong, files, directories, channels, controlData, listOf, classOf}
-use Rattle.labels.specs.Decisions.{_and_, at}
-use Rattle.labels.specs.Laws.Decisions.{and-l, and-r, by-test}
-use Rattle.requests.proofs.Table.{every, entry}
+use Rattle.requests.specs.ClassCodes.{classNamed, digitRight, each, wordRight}
+use Rattle.rules.specs.Requests.{classCode, lastRequest, lastKind, Listed, classAmong, files, directories, channels, controlData, listOf, classOf}
+use Rattle.labels.specs.Decisions.{_and_}
+use Rattle.labels.specs.Laws.Decisions.{and-l, and-r, by-eq, by-test}
 
 pub named-coded : (k : Class) → classNamed (classCode k) ≡ k
 named-coded Absent = refl
@@ -22,7 +21,7 @@ named-coded Writes = refl
 named-coded Both = refl
 named-coded NoCondition = refl
 
--- every request of a list is at most 21
+-- every request of a list is one
 abbrev known : List Listed → Bool
 known [] = true
 known (x ∷ xs) = leb (x .request) lastRequest and known xs
@@ -48,7 +47,7 @@ pub no-request : (r kind : ℕ) → lastRequest < r → classOf r kind ≡ Absen
 unfolding classOf
 no-request r kind h = not-listed r (listOf kind) h (list-known kind)
 
-pub no-kind : (r kind : ℕ) → 4 ≤ kind → classOf r kind ≡ Absent
+pub no-kind : (r kind : ℕ) → lastKind < kind → classOf r kind ≡ Absent
 unfolding classOf listOf classAmong
 no-kind r kind h =
     let a : kind ≢ 0 = omega arith in
@@ -57,26 +56,17 @@ no-kind r kind h =
     let d : kind ≢ 3 = omega arith in
     rw (ne-eqb kind 0 a, ne-eqb kind 1 b, ne-eqb kind 2 c, ne-eqb kind 3 d)
 
-abbrev pub codeIn : ℕ → ℕ → ℕ
-codeIn r kind = at classWords (kind * 2 + r / 12) / 2 ^ (r % 12 * 3) % 8
+each-at : (f : ℕ → Bool) (n j : ℕ) → j < n → each f n ≡ true → f j ≡ true
+each-at f zero j h t = absurd (omega arith)
+each-at f (suc n) j h t =
+    by-eq j n (λ e. subst⁻¹ (λ (m : ℕ). f m ≡ true) e (and-l _ _ t))
+    (λ d. let l : j < n = omega arith in each-at f n j l (and-r _ _ t))
 
--- The one computed test: each three bits of the table are the code of their request and kind.
-abbrev right : ℕ → ℕ → Bool
-right i x = eqb (codeIn (i / 4) (i % 4)) (classCode (classOf (i / 4) (i % 4)))
-
-abbrev zeros : ℕ → List ℕ
-zeros zero = []
-zeros (suc n) = 0 ∷ zeros n
-
-table-right : every right 0 (zeros 96) ≡ true
-unfolding classWords _and_ classOf listOf classAmong files directories channels controlData
-table-right = refl
-
-pub coded : (r kind : ℕ) → r < 24 → kind < 4 → codeIn r kind ≡ classCode (classOf r kind)
-coded r kind a b =
-    let q : (r * 4 + kind) / 4 ≡ r = omega arith in
-    let m : (r * 4 + kind) % 4 ≡ kind = omega arith in
-    let h : r * 4 + kind < 96 = omega arith in
-    ap₂ (λ (x y : ℕ). codeIn x y) (sym q) (sym m)
-    ∙ eqb-true _ _ (entry right (zeros 96) table-right (r * 4 + kind) h)
-    ∙ ap₂ (λ (x y : ℕ). classCode (classOf x y)) q m
+-- a digit of a right word is the code of its request and kind
+pub coded : (r kind i w : ℕ) → i ≡ r * 4 + kind → kind < 4 → wordRight (i / 16) w ≡ true → w / 2 ^ (i % 16 * 3) % 8 ≡ classCode (classOf r kind)
+unfolding wordRight
+coded r kind i w e b t =
+    let q : (i / 16 * 16 + i % 16) / 4 ≡ r = omega arith in
+    let m : (i / 16 * 16 + i % 16) % 4 ≡ kind = omega arith in
+    let h : i % 16 < 16 = omega arith in
+    eqb-true _ _ (each-at (digitRight (i / 16) w) 16 (i % 16) h t) ∙ ap₂ (λ (x y : ℕ). classCode (classOf x y)) q m

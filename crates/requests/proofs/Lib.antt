@@ -1,3 +1,2 @@
 -- Laws that only this crate's proofs cite, and proofs of its statements.
-pub mod Table
 pub mod ClassCodes

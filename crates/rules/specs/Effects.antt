@@ -8,7 +8,7 @@ use Rattle.rules.specs.Types.{Call, Process, Object, Facility, Change, N
 use Rattle.rules.specs.Types.{EnterObject}
 use Rattle.state.specs.State.{changed, freshProcess}
 use Rattle.rules.specs.Requests.{Action, Login, Clone, SendSignal, SetLevel, Terminate, Create, OnObject, Unknown, inDirectory, openChange}
-use Rattle.rules.specs.Modules.{View, viewOf, moved, levelled, signalled}
+use Rattle.rules.specs.Modules.{View, viewOf, moved, levelled, signalled, generalCategory}
 use Rattle.rules.specs.FileFlags.{addInherited}
 
 -- a created file or directory has add-inherited and its directory t as parent, another object neither
@@ -25,7 +25,7 @@ created r e t =
       live = 1;
       kind = e;
       label = r .current;
-      category = 0;
+      category = generalCategory;
       datatype = 0;
       flags = firstFlags e;
       parent = firstParent e t;

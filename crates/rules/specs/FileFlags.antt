@@ -6,7 +6,7 @@ use lib.Dec.{leb, ltb, eqb}
 use Rattle.labels.specs.Decisions.{_and_, _or_, at, on}
 use Rattle.answers.specs.Outcomes.{noObject}
 use Rattle.state.specs.State.{Objects}
-use Rattle.rules.specs.Requests.{Class, alters}
+use Rattle.rules.specs.Requests.{Class, alters, deleteRequest, executeRequest, searchRequest, writeRequest, directoryKind}
 
 -- the flags, each a bit of an object's byte, and all of them
 abbrev pub readOnly : ℕ
@@ -62,13 +62,13 @@ abbrev pub effective : Objects → ℕ → ℕ
 effective x t = effectiveIn t x t
 
 -- the flag by which v forbids a request of class k on an object of a kind, the first such, 0 where none does: read-only forbids W, B and
--- write (19), no-execute execute (7), no-delete delete (5), search-only every request on a directory (kind 1) but search (15)
+-- write, no-execute execute, no-delete delete, search-only every request on a directory but search
 unfoldable pub forbidding : ℕ → ℕ → Class → ℕ → ℕ
 forbidding v request k kind =
-    cond (has readOnly v and (alters k or eqb request 19)) readOnly
-    (cond (has noExecute v and eqb request 7) noExecute
-    (cond (has noDelete v and eqb request 5) noDelete
-    (cond (has searchOnly v and eqb kind 1 and not (eqb request 15)) searchOnly 0)))
+    cond (has readOnly v and (alters k or eqb request writeRequest)) readOnly
+    (cond (has noExecute v and eqb request executeRequest) noExecute
+    (cond (has noDelete v and eqb request deleteRequest) noDelete
+    (cond (has searchOnly v and eqb kind directoryKind and not (eqb request searchRequest)) searchOnly 0)))
 
 abbrev pub forbids : ℕ → ℕ → Class → ℕ → Bool
 forbids v request k kind = not (eqb (forbidding v request k kind) 0)

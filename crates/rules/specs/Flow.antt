@@ -44,7 +44,13 @@ unfoldable pub loginsBy : ℕ → List Call → Bool
 loginsBy u [] = true
 loginsBy u (c ∷ cs) = asked (isLogin (actionOf (c .request))) (eqb (c .extra) u) and loginsBy u cs
 
--- A list without a trusted login, whose logins are u's, after which b holds the matter of a.
+-- "Such a list": one without a trusted login, whoever logs in, after which b holds the matter of a.
+pub record Reaches (s : List ℕ) (a b : ℕ) : Type 0 where
+  pub calls : List Call
+  pub untrusted : trustedLogins (fresh s) calls ≡ false
+  pub holding : holds s calls b a ≡ true
+
+-- Such a list of four-byte calls, all logins of which are u's.
 pub record Carries (s : List ℕ) (u a b : ℕ) : Type 0 where
   pub calls : List Call
   pub four : allFourBytes calls ≡ true
@@ -52,7 +58,8 @@ pub record Carries (s : List ℕ) (u a b : ℕ) : Type 0 where
   pub untrusted : trustedLogins (fresh s) calls ≡ false
   pub holding : holds s calls b a ≡ true
 
--- User u is untrusted and cleared for a and b: the level of each is set, and u's clearance dominates its label.
+-- User u is untrusted and cleared for a and b: u's clearance dominates the label of each. The level of each is then set, since an unset one (255) is
+-- above every clearance's.
 pub record Cleared (s : List ℕ) (u a b : ℕ) : Type 0 where
   pub user : isUser (fresh s) u ≡ true
   pub untrusted : trustedUser (fresh s) u ≡ false
@@ -66,11 +73,11 @@ pub record MacAlone (s : Switches) : Type 0 where
   pub sim : on (s .sim) ≡ false
   pub ff : on (s .ff) ≡ false
 
--- Second half: for every set-up with MAC on alone, objects a and b of it, of any kind, and an untrusted user cleared for both,
--- there is a list, with logins of this user alone, by which b comes to hold the matter of a exactly when b's label dominates a's.
+-- Second half: for every set-up with MAC on alone, objects a and b of it, of any kind, and an untrusted user cleared for both, a list by which b comes to
+-- hold the matter of a exists exactly when b's label dominates a's; and where one exists, one with logins of this user alone does.
 abbrev pub ExactlyWhen : Type 0
 ExactlyWhen =
     (s : List ℕ) → MacAlone (switchesOf (fresh s))
     → (a b : ℕ) → a < fresh s .entered → b < fresh s .entered
     → (u : ℕ) → Cleared s u a b
-    → Carries s u a b ↔ (labelOf (fresh s) a ⊑ labelOf (fresh s) b)
+    → (Reaches s a b ↔ (labelOf (fresh s) a ⊑ labelOf (fresh s) b)) × (Reaches s a b → Carries s u a b)

@@ -11,10 +11,11 @@ use mathlib.Core.List.{List, [], _∷_}
 use lib.Bits.{bitAnd}
 use lib.Dec.{leb, ltb, eqb}
 use Rattle.labels.specs.Decisions.{_and_, _or_, ask, asked}
-use Rattle.labels.specs.Labels.{unset, allCategories}
+use Rattle.labels.specs.Labels.{unset, topLevel, allCategories}
 use Rattle.state.specs.State.{mostUsers}
 use Rattle.opens.specs.Opens.{mostObjects}
 use Rattle.rules.specs.FileFlags.{allFlags}
+use Rattle.rules.specs.Requests.{directoryKind, lastKind}
 
 -- "3 switches: bytes 1 to 3 MAC, FC, SIM, each 0 or 1", one record; "a fourth switch is byte 4"
 abbrev pub switchesKind : Kind
@@ -38,7 +39,7 @@ usersKind =
     record {
       place = 2;
       most = mostUsers;
-      one = Upto 15;
+      one = Upto topLevel;
       two = Upto 2;
       three = Upto 1;
       four = Upto allCategories;
@@ -56,8 +57,8 @@ objectsKind =
     record {
       place = 3;
       most = mostObjects;
-      one = Upto 3;
-      two = OrUnset 15;
+      one = Upto lastKind;
+      two = OrUnset topLevel;
       three = OrUnset 2;
       four = Upto 1;
       five = Bits allFlags;
@@ -125,7 +126,7 @@ allowed past r = allowedBy (kindOf (r .kind)) r
 -- whether object n, the record of kind 2 with n of its kind before it, is among them and is a directory
 unfoldable pub directoryAmong : ℕ → List SetupRecord → Bool
 directoryAmong n [] = false
-directoryAmong n (q ∷ past) = cond (eqb (q .kind) 2 and eqb (countOf 2 past) n) (eqb (q .one) 1) (directoryAmong n past)
+directoryAmong n (q ∷ past) = cond (eqb (q .kind) 2 and eqb (countOf 2 past) n) (eqb (q .one) directoryKind) (directoryAmong n past)
 
 -- 19: is the parent of an object none, or the number plus 1 of an earlier directory?
 unfoldable pub parentFits : List SetupRecord → SetupRecord → Bool

@@ -16,5 +16,6 @@ pub mod Computed
 pub mod Edges
 pub mod Examples
 pub mod Promises
+pub mod ModulesApart
 pub mod Flow
 pub mod Proofs

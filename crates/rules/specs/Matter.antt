@@ -8,6 +8,7 @@ use Rattle.rules.specs.Types.{Facility, Call}
 use Rattle.state.specs.State.{objectOf}
 use Rattle.rules.specs.Requests.{Class, Absent, Reads, Writes, Both, NoCondition, Action, Login, Clone, SendSignal, SetLevel, Terminate, Create}
 use Rattle.rules.specs.Requests.{OnObject, Unknown, classOf, inDirectory, actionOf}
+use Rattle.rules.specs.Requests.{createRequest, deleteRequest, readRequest, readOpenRequest, writeRequest, writeOpenRequest}
 use Rattle.rules.specs.Histories.{Entry, history}
 use Rattle.rules.specs.Setup.{fresh}
 
@@ -80,21 +81,21 @@ enter a e =
       processes = a .processes;
     }
 
--- read (12) of a file or channel, and every R but read-open (13)
+-- read of a file or channel, and every R but read-open
 abbrev pub takes : ℕ → Class → Bool
 takes r Absent = false
-takes r Reads = not (eqb r 13)
+takes r Reads = not (eqb r readOpenRequest)
 takes r Writes = false
 takes r Both = false
-takes r NoCondition = eqb r 12
+takes r NoCondition = eqb r readRequest
 
--- write (19), and every W but write-open (20), delete (5) and create (4), which `carryBy` has
+-- write, and every W but write-open, delete and create, which `carryBy` has
 abbrev pub gives : ℕ → Class → Bool
 gives r Absent = false
 gives r Reads = false
-gives r Writes = not (eqb r 20) and not (eqb r 5) and not (eqb r 4)
+gives r Writes = not (eqb r writeOpenRequest) and not (eqb r deleteRequest) and not (eqb r createRequest)
 gives r Both = false
-gives r NoCondition = eqb r 19
+gives r NoCondition = eqb r writeRequest
 
 -- an accepted request on an object, of class k
 unfoldable pub carry : Class → Account → Call → Account

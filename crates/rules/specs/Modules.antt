@@ -12,7 +12,7 @@ use Rattle.labels.specs.Labels.{unset, Label, label, leq, same, join, meet, giv
 use Rattle.answers.specs.Answers.{grant}
 use Rattle.rules.specs.FileFlags.{effective, forbids}
 use Rattle.rules.specs.Requests.{Action, Login, Clone, SendSignal, SetLevel, Terminate, Create, OnObject, Unknown, Class, Absent, Reads, Writes}
-use Rattle.rules.specs.Requests.{Both, NoCondition, classOf, alters, inDirectory, needsObject}
+use Rattle.rules.specs.Requests.{Both, NoCondition, classOf, alters, inDirectory, needsObject, writeRequest}
 
 -- what FF looks at, where it is on
 abbrev pub flagsSeen : Facility → ℕ → ℕ
@@ -93,15 +93,25 @@ macRule Create v c =
 macRule OnObject v c = macObject (classIn v c) (v .target .object) (v .caller) (v .owner)
 macRule Unknown v c = NotGranted
 
+-- the category general, the role of the security officer, and the data type security information
+abbrev pub generalCategory : ℕ
+generalCategory = 0
+
+abbrev pub securityOfficer : ℕ
+securityOfficer = 1
+
+abbrev pub securityInformation : ℕ
+securityInformation = 1
+
 -- FC: unset category undefined; granted if the category is general or matches the role by number; else not granted
 unfoldable pub fcRule : Object → User → Answer
 fcRule o u =
-    cond (eqb (o .category) unset) Undefined (grant (eqb (o .category) 0 or eqb (o .category) (u .role)))
+    cond (eqb (o .category) unset) Undefined (grant (eqb (o .category) generalCategory or eqb (o .category) (u .role)))
 
 -- SIM: for class W or B, or write, on security information: granted to the security officer, else not granted
 unfoldable pub simRule : ℕ → Class → Object → User → Answer
 simRule request k o u =
-    cond ((alters k or eqb request 19) and eqb (o .datatype) 1) (grant (eqb (u .role) 1)) NotCared
+    cond ((alters k or eqb request writeRequest) and eqb (o .datatype) securityInformation) (grant (eqb (u .role) securityOfficer)) NotCared
 
 -- FF: a forbidden request is not granted, all else is not cared about
 unfoldable pub ffRule : ℕ → Class → Object → ℕ → Answer

@@ -3,29 +3,31 @@ use Rattle.answers.specs.declared.Outcome.the-variants.{Refused}
 use Prim.Native.Nat.{ℕ, zero, suc, _+_, _-_, _≤_, _<_, min}
 use mathlib.Core.Path.{_≡_}
 use mathlib.Core.Logic.{_≢_}
-use mathlib.Core.Bool.{true, false, not, cond}
-use mathlib.Core.List.{List, [], _∷_}
+use mathlib.Core.Bool.{Bool, true, false, not, cond}
+use mathlib.Core.List.{List, [], _∷_, map}
 use lib.Bits.{bitOr}
 use lib.Dec.{leb, ltb, eqb}
-use lib.ListN.{length, set}
-use Rattle.rules.specs.Types.{Outcome, Call, Facility}
+use lib.ListN.{length, set, take, drop}
+use Rattle.rules.specs.Types.{Outcome, Call, Object, Facility}
 use Rattle.labels.specs.Decisions.{_and_, _or_, asked, at, on}
-use Rattle.answers.specs.Outcomes.{denies, numberOf, objectNumberOf, noObject}
+use Rattle.answers.specs.Outcomes.{denies, numberOf, objectNumberOf, noObject, writeNumber, writeLength}
 use Rattle.opens.specs.Opens.{mostObjects}
 use Rattle.state.specs.State.{Objects, objectsIn, objectOf, live, mostUsers, mostRefusals, switchesOf, processOf, refusalsOf, putRefusals, counted}
-use Rattle.state.specs.State.{trustedUser, clearanceOf, runs, usersIn, processesFrom, with}
-use Rattle.rules.specs.Calls.{ownerIn, accepted, query, after, enforce}
-use Rattle.rules.specs.Histories.{run, outcomes, Step, past, ownerAfter, movesOf, movesBound}
+use Rattle.state.specs.State.{trustedUser, clearanceOf, labelOf, runs, opensOf, usersIn, processesFrom, with, allOff, blank}
+use Rattle.rules.specs.Calls.{ownerIn, accepted, query, after}
+use Rattle.rules.specs.Histories.{run, outcomes, Step, past, ownerAfter, currentOf, movesOf, movesBound}
 use Rattle.rules.specs.Requests.{Action, Class, lastRequest, actionOf, isAbsent, isNoCondition, isLogin, isCreate, inDirectory, needsObject}
+use Rattle.rules.specs.Requests.{sendSignalRequest}
 use Rattle.rules.specs.Kinds.{SetupRecord, fits, room, allowed, parentFits, recordNumber}
-use Rattle.rules.specs.Setup.{fresh, acceptedSetup, usersOf, liveObjects, newNumber, writtenObjects, setupBytes}
+use Rattle.rules.specs.Setup.{recordsIn, switchesEntered, userEntered, objectEntered, fresh, acceptedSetup, listed, every, usersOf, liveObjects}
+use Rattle.rules.specs.Setup.{newNumber, writtenObjects, setupBytes, Writing, writeSetup}
 use Rattle.rules.specs.FileFlags.{readOnly, noExecute, noDelete, searchOnly, addInherited, has, withoutNoDelete, flagsOf, parentOf, inherits}
 use Rattle.rules.specs.FileFlags.{effective, forbids, flagSource}
 use Rattle.rules.specs.Modules.{View, classIn}
 use Rattle.rules.specs.Matter.{union, Account, afterEntry}
-use Rattle.rules.specs.Questions.{runsOf, inRange, isRunning, isFree, openFor, roomFor, numberBy, number}
+use Rattle.rules.specs.Questions.{runsOf, inRange, isRunning, isFree, openFor, numberBy, number}
 
--- Demand 1 (Proofs/Refusals): what a call that is not accepted leaves, and that query gives what enforce would.
+-- Demand 1 (Proofs/Refusals): what a call that is not accepted leaves. (That query gives what enforce would is in the definition of `enforce`.)
 pub record Refusals : Type 0 where
   -- everything but the counters is as it was
   pub unchanged : (f : Facility) (c : Call) → accepted f c ≡ false → after f c ≡ putRefusals f (after f c .refusals)
@@ -35,9 +37,8 @@ pub record Refusals : Type 0 where
   -- 12 and 13 are counted, for the owner of the calling process alone, and there is no larger number
   pub counts : (f : Facility) (c : Call) → denies (number f c) ≡ true → after f c ≡ counted f ((processOf f (c .process)) .owner)
   pub largest : (f : Facility) (c : Call) → number f c ≤ 13
-  -- the outcome has the call's number, and query's is enforce's
+  -- the outcome has the call's number
   pub numbered : (f : Facility) (c : Call) → numberOf (query f c) ≡ number f c
-  pub foretold : (f : Facility) (c : Call) → query f c ≡ (enforce f c) .outcome
 
 -- how many outcomes of a history have number 12 or 13
 unfoldable pub denialsIn : List Outcome → ℕ
@@ -78,17 +79,18 @@ unfoldable pub upFrom : ℕ → ℕ → List ℕ
 upFrom n zero = []
 upFrom n (suc k) = n ∷ upFrom (n + 1) k
 
--- questions 1 to 9 are answered with yes
-pub record PassedTo9 (k : Action) (v : View) (c : Call) : Type 0 where
-  pub one : leb (c .request) lastRequest ≡ true
-  pub two : inRange k c ≡ true
-  pub three : isRunning k (runsOf v) ≡ true
-  pub four : isFree k (runsOf v) ≡ true
-  pub five : asked (isLogin k) (ltb (c .extra) (v .users)) ≡ true
-  pub eight : asked (isCreate k) (leb (c .extra) 3) ≡ true
-  pub six : asked (needsObject k (c .extra)) (on (v .target .object .live)) ≡ true
-  pub seven : asked (needsObject k (c .extra)) (not (isAbsent (classIn v c))) ≡ true
-  pub nine : asked (needsObject k (c .extra)) (asked (isNoCondition (classIn v c)) (openFor v c)) ≡ true
+-- questions 1 to 9, in their order, are all answered with yes
+abbrev pub passesTo9 : Action → View → Call → Bool
+passesTo9 k v c =
+    leb (c .request) lastRequest
+    and inRange k c
+    and isRunning k (runsOf v)
+    and isFree k (runsOf v)
+    and asked (isLogin k) (ltb (c .extra) (v .users))
+    and asked (isCreate k) (leb (c .extra) 3)
+    and asked (needsObject k (c .extra)) (on (v .target .object .live))
+    and asked (needsObject k (c .extra)) (not (isAbsent (classIn v c)))
+    and asked (needsObject k (c .extra)) (asked (isNoCondition (classIn v c)) (openFor v c))
 
 -- Object numbers (Proofs/ObjectNumbers).
 pub record ObjectNumbers : Type 0 where
@@ -99,9 +101,46 @@ pub record ObjectNumbers : Type 0 where
       → numbersGiven (fresh s) cs ≡ upFrom (fresh s .entered) (length (numbersGiven (fresh s) cs))
   pub entering : (s : List ℕ) (cs : List Call)
       → run (fresh s) cs .entered ≡ fresh s .entered + length (numbersGiven (fresh s) cs)
-  -- number 10 exactly when its question is answered with no, which is: create, and not fewer than 128 entered
-  pub ten : (k : Action) (v : View) (c : Call) → PassedTo9 k v c → eqb (numberBy k v c) 10 ≡ not (roomFor k v c)
-  pub full : (k : Action) (v : View) (c : Call) → roomFor k v c ≡ asked (isCreate k) (ltb (v .entered) mostObjects)
+  -- number 10 exactly where no earlier question refuses, the request is create, and not fewer than 128 are entered
+  pub ten : (k : Action) (v : View) (c : Call) → eqb (numberBy k v c) 10 ≡ (passesTo9 k v c and isCreate k and not (ltb (v .entered) mostObjects))
+
+-- the records of kind k, in their order
+unfoldable pub ofKind : ℕ → List SetupRecord → List SetupRecord
+ofKind k [] = []
+ofKind k (r ∷ rs) = cond (eqb (r .kind) k) (r ∷ ofKind k rs) (ofKind k rs)
+
+-- all objects that were entered, in the order of their numbers
+abbrev pub objectsEntered : Facility → List Object
+objectsEntered f = listed (f .entered) every (objectOf f)
+
+-- The fresh facility, by the bytes of the set-up (Proofs/FreshFacilities).
+pub record FreshFacilities : Type 0 where
+  -- the switches are those of the one record of kind 3; user n and object n those of the record of kind 1, and 2, with n of its kind before it
+  pub switches : (s : List ℕ) → acceptedSetup s ≡ true → switchesOf (fresh s) ∷ [] ≡ map switchesEntered (ofKind 3 (recordsIn s))
+  pub users : (s : List ℕ) → acceptedSetup s ≡ true → usersOf (fresh s) ≡ map userEntered (ofKind 1 (recordsIn s))
+  pub objects : (s : List ℕ) → acceptedSetup s ≡ true → objectsEntered (fresh s) ≡ map objectEntered (ofKind 2 (recordsIn s))
+  -- a refused set-up gives all switches off, and no user and no object
+  pub refused : (s : List ℕ) → acceptedSetup s ≡ false → fresh s ≡ blank allOff
+  -- no process runs, nothing is open, no refusal is counted
+  pub stopped : (s : List ℕ) (p : ℕ) → runs (fresh s) p ≡ false
+  pub closed : (s : List ℕ) (p t : ℕ) → opensOf (fresh s) p t ≡ 0
+  pub uncounted : (s : List ℕ) (u : ℕ) → refusalsOf (fresh s) u ≡ 0
+
+-- What the set-up fixes (Proofs/Leaves): no call changes a switch, nor a user's clearance, role or trust.
+pub record UsersStay : Type 0 where
+  pub switches : (s : List ℕ) (cs : List Call) → switchesOf (run (fresh s) cs) ≡ switchesOf (fresh s)
+  pub users : (s : List ℕ) (cs : List Call) → usersOf (run (fresh s) cs) ≡ usersOf (fresh s)
+
+-- "An object's level after a list is what the set-up and the rules give it; a deleted object keeps its last" (Proofs/Kept).
+pub record LabelsStay : Type 0 where
+  -- an object of the set-up has the label of its record
+  pub entered : (s : List ℕ) (cs : List Call) (t : ℕ) → t < fresh s .entered → labelOf (run (fresh s) cs) t ≡ labelOf (fresh s) t
+  -- a created object has the current label of its process after the call
+  pub created : (s : List ℕ) (cs : List Call) (c : Call) → accepted (run (fresh s) cs) c ≡ true → isCreate (actionOf (c .request)) ≡ true
+      → labelOf (after (run (fresh s) cs) c) (run (fresh s) cs .entered) ≡ currentOf (after (run (fresh s) cs) c) (c .process)
+  -- and no later call changes either
+  pub later : (s : List ℕ) (cs ds : List Call) (t : ℕ) → t < run (fresh s) cs .entered
+      → labelOf (run (run (fresh s) cs) ds) t ≡ labelOf (run (fresh s) cs) t
 
 -- g has the switches, users and live objects of f, in order, and their parents by their new numbers
 pub record SameSetup (f g : Facility) : Type 0 where
@@ -123,6 +162,30 @@ pub record RoundTrips : Type 0 where
   -- 19 exactly where 15, 16 and 17 pass and an object's parent is neither none nor an earlier directory
   pub nineteen : (past : List SetupRecord) (r : SetupRecord)
       → eqb (recordNumber past r) 19 ≡ (fits past r and room past r and allowed past r and not (parentFits past r))
+
+-- What a writing into the lent buffer l answers and leaves where it holds the bytes w: 0, their length, w in front, and behind it what was there.
+pub record Lent (x : Writing) (w l : List ℕ) : Type 0 where
+  pub number : writeNumber (x .outcome) ≡ 0
+  pub long : writeLength (x .outcome) ≡ length w
+  pub front : take (length w) (x .buffer) ≡ w
+  pub behind : drop (length w) (x .buffer) ≡ drop (length w) l
+
+-- and where it does not: 18, length 0, buffer untouched
+pub record Untouched (x : Writing) (l : List ℕ) : Type 0 where
+  pub number : writeNumber (x .outcome) ≡ 18
+  pub long : writeLength (x .outcome) ≡ 0
+  pub buffer : x .buffer ≡ l
+
+-- Set-ups in a caller's lent buffer (Proofs/RoundTrips).
+pub record LentRoundTrips : Type 0 where
+  -- of every facility: what a buffer that holds it all gets, and that a shorter one gets nothing
+  pub room : (f : Facility) (l : List ℕ) → length (setupBytes f) ≤ length l → Lent (writeSetup f l) (setupBytes f) l
+  pub short : (f : Facility) (l : List ℕ) → length l < length (setupBytes f) → Untouched (writeSetup f l) l
+  -- a set-up that is read and written out gives the same bytes
+  pub written : (s l : List ℕ) → acceptedSetup s ≡ true → length s ≤ length l → Lent (writeSetup (fresh s) l) s l
+  -- written out, after any list of calls, and read back by the length that was returned: the same switches, users and live objects
+  pub read : (s : List ℕ) (cs : List Call) (l : List ℕ) → length (setupBytes (run (fresh s) cs)) ≤ length l
+      → SameSetup (run (fresh s) cs) (fresh (take (writeLength ((writeSetup (run (fresh s) cs) l) .outcome)) ((writeSetup (run (fresh s) cs) l) .buffer)))
 
 -- Ticket 2, file flags (Proofs/Inheritance).
 pub record Inheritance : Type 0 where
@@ -148,9 +211,9 @@ pub record Inheritance : Type 0 where
       ≡ (has readOnly v and forbids readOnly request k kind or has noExecute v and forbids noExecute request k kind
       or has noDelete v and forbids noDelete request k kind or has searchOnly v and forbids searchOnly request k kind)
 
--- c is a signal (request 16) that f accepts
+-- c is a signal that f accepts
 pub record AcceptedSignal (f : Facility) (c : Call) : Type 0 where
-  pub request : c .request ≡ 16
+  pub request : c .request ≡ sendSignalRequest
   pub accepted : accepted f c ≡ true
 
 -- the owner of the receiver

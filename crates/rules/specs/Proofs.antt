@@ -1,6 +1,7 @@
 -- The proofs of the theorems.
 pub mod Passed
 pub mod Sound
+pub mod Leaves
 pub mod Processes
 pub mod Invariant
 pub mod Opens
@@ -20,6 +21,7 @@ pub mod Written
 pub mod Steps
 pub mod OnlyWhen
 pub mod Kept
+pub mod LabelsStay
 pub mod Witness
 pub mod WitnessCalls
 pub mod ExactlyWhen
@@ -31,5 +33,7 @@ pub mod MovesCounted
 pub mod Counters
 pub mod ObjectNumbers
 pub mod RoundTrips
+pub mod FreshFacilities
 pub mod Flags
 pub mod Inheritance
+pub mod ModulesApart

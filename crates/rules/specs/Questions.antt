@@ -5,10 +5,11 @@ use mathlib.Core.Bool.{Bool, not, cond}
 use lib.Dec.{leb, ltb, eqb}
 use Rattle.rules.specs.Types.{Call, Facility}
 use Rattle.labels.specs.Decisions.{_and_, _or_, asked, ask, on}
+use Rattle.labels.specs.Labels.{topLevel}
 use Rattle.opens.specs.Opens.{mostProcesses, mostObjects, reading, writing}
 use Rattle.answers.specs.Answers.{isNotGranted, isUndefined}
 use Rattle.rules.specs.Requests.{Action, lastRequest, actionOf, isAbsent, isNoCondition, isLogin, isClone, isSendSignal, isSetLevel, isCreate}
-use Rattle.rules.specs.Requests.{needsObject}
+use Rattle.rules.specs.Requests.{needsObject, readRequest, writeRequest, lastKind}
 use Rattle.rules.specs.Modules.{View, viewOf, classIn, answers}
 
 -- what questions 1 to 5 look at: the number of users, and whether caller and receiver run
@@ -30,11 +31,11 @@ isRunning k r = asked (not (isLogin k)) (on (r .caller)) and asked (isSendSignal
 unfoldable pub isFree : Action → Runs → Bool
 isFree k r = asked (isLogin k) (not (on (r .caller))) and asked (isClone k) (not (on (r .receiver)))
 
--- open in the mode of the request: 12 read, 19 write; close: in any
+-- open in the mode of the request: read, write; close: in any
 unfoldable pub openFor : View → Call → Bool
 openFor v c =
-    cond (eqb (c .request) 12) (reading (v .target .opens))
-    (cond (eqb (c .request) 19) (writing (v .target .opens)) (reading (v .target .opens) or writing (v .target .opens)))
+    cond (eqb (c .request) readRequest) (reading (v .target .opens))
+    (cond (eqb (c .request) writeRequest) (writing (v .target .opens)) (reading (v .target .opens) or writing (v .target .opens)))
 
 -- are fewer than 128 entered?
 unfoldable pub roomFor : Action → View → Call → Bool
@@ -48,12 +49,12 @@ numberBy k v c =
     (ask (isRunning k (runsOf v)) 3
     (ask (isFree k (runsOf v)) 4
     (ask (asked (isLogin k) (ltb (c .extra) (v .users))) 5
-    (ask (asked (isCreate k) (leb (c .extra) 3)) 8
+    (ask (asked (isCreate k) (leb (c .extra) lastKind)) 8
     (ask (asked (needsObject k (c .extra)) (on (v .target .object .live))) 6
     (ask (asked (needsObject k (c .extra)) (not (isAbsent (classIn v c)))) 7
     (ask (asked (needsObject k (c .extra)) (asked (isNoCondition (classIn v c)) (openFor v c))) 9
     (ask (roomFor k v c) 10
-    (ask (asked (isSetLevel k) (leb (c .extra) 15)) 11
+    (ask (asked (isSetLevel k) (leb (c .extra) topLevel)) 11
     (ask (not (isNotGranted (answers k v c .combined))) 12
     (ask (not (isUndefined (answers k v c .combined))) 13 0))))))))))))
 

@@ -11,15 +11,103 @@ use mathlib.Core.List.{List, [], _∷_}
 use lib.Dec.{leb, eqb}
 use Rattle.labels.specs.Decisions.{_or_}
 
--- the last request number
-abbrev pub lastRequest : ℕ
-lastRequest = 21
+-- The requests by their numbers. The lists of classes below keep the paper's numbers, since they are read beside it.
+abbrev pub alterRequest : ℕ
+alterRequest = 0
 
--- what a request acts on: 2 clone, 4 create, 16 send-signal, 17 set-level, 18 terminate, 21 login; the others up to 21 act on an object
+abbrev pub changeOwnerRequest : ℕ
+changeOwnerRequest = 1
+
+abbrev pub cloneRequest : ℕ
+cloneRequest = 2
+
+abbrev pub closeRequest : ℕ
+closeRequest = 3
+
+abbrev pub createRequest : ℕ
+createRequest = 4
+
+abbrev pub deleteRequest : ℕ
+deleteRequest = 5
+
+abbrev pub deleteDataRequest : ℕ
+deleteDataRequest = 6
+
+abbrev pub executeRequest : ℕ
+executeRequest = 7
+
+abbrev pub getPermissionsDataRequest : ℕ
+getPermissionsDataRequest = 8
+
+abbrev pub getStatusDataRequest : ℕ
+getStatusDataRequest = 9
+
+abbrev pub modifyAccessDataRequest : ℕ
+modifyAccessDataRequest = 10
+
+abbrev pub modifyPermissionsDataRequest : ℕ
+modifyPermissionsDataRequest = 11
+
+abbrev pub readRequest : ℕ
+readRequest = 12
+
+abbrev pub readOpenRequest : ℕ
+readOpenRequest = 13
+
+abbrev pub readWriteOpenRequest : ℕ
+readWriteOpenRequest = 14
+
+abbrev pub searchRequest : ℕ
+searchRequest = 15
+
+abbrev pub sendSignalRequest : ℕ
+sendSignalRequest = 16
+
+abbrev pub setLevelRequest : ℕ
+setLevelRequest = 17
+
+abbrev pub terminateRequest : ℕ
+terminateRequest = 18
+
+abbrev pub writeRequest : ℕ
+writeRequest = 19
+
+abbrev pub writeOpenRequest : ℕ
+writeOpenRequest = 20
+
+abbrev pub loginRequest : ℕ
+loginRequest = 21
+
+-- the last one
+abbrev pub lastRequest : ℕ
+lastRequest = loginRequest
+
+-- the kinds of objects, and the last one
+abbrev pub fileKind : ℕ
+fileKind = 0
+
+abbrev pub directoryKind : ℕ
+directoryKind = 1
+
+abbrev pub channelKind : ℕ
+channelKind = 2
+
+abbrev pub controlDataKind : ℕ
+controlDataKind = 3
+
+abbrev pub lastKind : ℕ
+lastKind = controlDataKind
+
+-- what a request acts on: those that are not named act on an object, up to the last one
 unfoldable pub actionOf : ℕ → Action
 actionOf r =
-    cond (eqb r 2) Clone (cond (eqb r 4) Create (cond (eqb r 16) SendSignal (cond (eqb r 17) SetLevel
-    (cond (eqb r 18) Terminate (cond (eqb r 21) Login (cond (leb r lastRequest) OnObject Unknown))))))
+    cond (eqb r cloneRequest) Clone
+    (cond (eqb r createRequest) Create
+    (cond (eqb r sendSignalRequest) SendSignal
+    (cond (eqb r setLevelRequest) SetLevel
+    (cond (eqb r terminateRequest) Terminate
+    (cond (eqb r loginRequest) Login
+    (cond (leb r lastRequest) OnObject Unknown))))))
 
 -- Classes by kind: R reads, W writes, B both, N no condition. A line of the paper's list.
 pub record Listed : Type 0 where
@@ -44,10 +132,13 @@ channels = 0 is Writes ∷ 5 is Writes ∷ 12 is NoCondition ∷ 14 is Both ∷ 
 unfoldable pub controlData : List Listed
 controlData = 1 is Writes ∷ 5 is Writes ∷ 8 is Reads ∷ 9 is Reads ∷ 10 is Writes ∷ 11 is Writes ∷ []
 
--- the list of a kind: 0 file, 1 directory, 2 IPC channel, 3 system control data
+-- the list of a kind
 unfoldable pub listOf : ℕ → List Listed
 listOf kind =
-    cond (eqb kind 0) files (cond (eqb kind 1) directories (cond (eqb kind 2) channels (cond (eqb kind 3) controlData [])))
+    cond (eqb kind fileKind) files
+    (cond (eqb kind directoryKind) directories
+    (cond (eqb kind channelKind) channels
+    (cond (eqb kind controlDataKind) controlData [])))
 
 -- the class of request r in a list; a request that is not listed has none
 unfoldable pub classAmong : ℕ → List Listed → Class
@@ -79,45 +170,55 @@ observes k = eqb (classCode k % 2) 1
 abbrev pub alters : Class → Bool
 alters k = eqb (classCode k / 2) 1
 
--- the number of the request that acts so; of a request on an object, which many are, and of no request, a number that is no request
+-- The number of the request that acts so; of a request on an object, which many are, and of no request, numbers that will be no request's.
+abbrev pub onObjectCode : ℕ
+onObjectCode = 254
+
+abbrev pub unknownCode : ℕ
+unknownCode = 255
+
 abbrev pub actionCode : Action → ℕ
-actionCode Clone = 2
-actionCode Create = 4
-actionCode SendSignal = 16
-actionCode SetLevel = 17
-actionCode Terminate = 18
-actionCode Login = 21
-actionCode OnObject = 22
-actionCode Unknown = 23
+actionCode Clone = cloneRequest
+actionCode Create = createRequest
+actionCode SendSignal = sendSignalRequest
+actionCode SetLevel = setLevelRequest
+actionCode Terminate = terminateRequest
+actionCode Login = loginRequest
+actionCode OnObject = onObjectCode
+actionCode Unknown = unknownCode
 
 abbrev pub isClone : Action → Bool
-isClone k = eqb (actionCode k) 2
+isClone k = eqb (actionCode k) cloneRequest
 
 abbrev pub isCreate : Action → Bool
-isCreate k = eqb (actionCode k) 4
+isCreate k = eqb (actionCode k) createRequest
 
 abbrev pub isSendSignal : Action → Bool
-isSendSignal k = eqb (actionCode k) 16
+isSendSignal k = eqb (actionCode k) sendSignalRequest
 
 abbrev pub isSetLevel : Action → Bool
-isSetLevel k = eqb (actionCode k) 17
+isSetLevel k = eqb (actionCode k) setLevelRequest
 
 abbrev pub isLogin : Action → Bool
-isLogin k = eqb (actionCode k) 21
+isLogin k = eqb (actionCode k) loginRequest
 
 -- a request on an object, other than create
 abbrev pub isOnObject : Action → Bool
-isOnObject k = eqb (actionCode k) 22
+isOnObject k = eqb (actionCode k) onObjectCode
 
--- whether an object of kind e is created in a directory: a channel (2) and control data (3) are not
+-- whether an object of kind e is created in a directory: a channel and control data are not
 abbrev pub inDirectory : ℕ → Bool
-inDirectory e = not (eqb e 2 or eqb e 3)
+inDirectory e = not (eqb e channelKind or eqb e controlDataKind)
 
--- an object target is needed by all but 2, 16, 17, 18, 21 and create with e 2 or 3
+-- an object target is needed by all but clone, send-signal, set-level, terminate, login and create of a channel or control data
 abbrev pub needsObject : Action → ℕ → Bool
 needsObject k e = cond (isCreate k) (inDirectory e) (isOnObject k)
 
--- what a request on an object does to the opens: 13 read-open, 14 read&write-open and 20 write-open add their modes, 3 close, 5 delete
+-- what a request on an object does to the opens: the three that open add their modes (1 reading, 2 writing), close, delete
 unfoldable pub openChange : ℕ → OpenChange
 openChange r =
-    cond (eqb r 13) (Add 1) (cond (eqb r 14) (Add 3) (cond (eqb r 20) (Add 2) (cond (eqb r 3) Close (cond (eqb r 5) CloseAll Keep))))
+    cond (eqb r readOpenRequest) (Add 1)
+    (cond (eqb r readWriteOpenRequest) (Add 3)
+    (cond (eqb r writeOpenRequest) (Add 2)
+    (cond (eqb r closeRequest) Close
+    (cond (eqb r deleteRequest) CloseAll Keep))))

@@ -7,7 +7,73 @@ use state::Process;
 use state::Switches;
 use state::User;
 
-// What a request acts on. All requests that are not named here act on an object; a number above 21 is no request.
+// The requests by their numbers.
+pub const ALTER_REQUEST: u8 = 0;
+
+pub const CHANGE_OWNER_REQUEST: u8 = 1;
+
+pub const CLONE_REQUEST: u8 = 2;
+
+pub const CLOSE_REQUEST: u8 = 3;
+
+pub const CREATE_REQUEST: u8 = 4;
+
+pub const DELETE_REQUEST: u8 = 5;
+
+pub const DELETE_DATA_REQUEST: u8 = 6;
+
+pub const EXECUTE_REQUEST: u8 = 7;
+
+pub const GET_PERMISSIONS_DATA_REQUEST: u8 = 8;
+
+pub const GET_STATUS_DATA_REQUEST: u8 = 9;
+
+pub const MODIFY_ACCESS_DATA_REQUEST: u8 = 10;
+
+pub const MODIFY_PERMISSIONS_DATA_REQUEST: u8 = 11;
+
+pub const READ_REQUEST: u8 = 12;
+
+pub const READ_OPEN_REQUEST: u8 = 13;
+
+pub const READ_WRITE_OPEN_REQUEST: u8 = 14;
+
+pub const SEARCH_REQUEST: u8 = 15;
+
+pub const SEND_SIGNAL_REQUEST: u8 = 16;
+
+pub const SET_LEVEL_REQUEST: u8 = 17;
+
+pub const TERMINATE_REQUEST: u8 = 18;
+
+pub const WRITE_REQUEST: u8 = 19;
+
+pub const WRITE_OPEN_REQUEST: u8 = 20;
+
+pub const LOGIN_REQUEST: u8 = 21;
+
+// The last one.
+pub const LAST_REQUEST: u8 = LOGIN_REQUEST;
+
+// The kinds of objects, and the last one.
+pub const FILE_KIND: u8 = 0;
+
+pub const DIRECTORY_KIND: u8 = 1;
+
+pub const CHANNEL_KIND: u8 = 2;
+
+pub const CONTROL_DATA_KIND: u8 = 3;
+
+pub const LAST_KIND: u8 = CONTROL_DATA_KIND;
+
+// The category general, the role of the security officer, and the data type security information.
+pub const GENERAL_CATEGORY: u8 = 0;
+
+pub const SECURITY_OFFICER: u8 = 1;
+
+pub const SECURITY_INFORMATION: u8 = 1;
+
+// What a request acts on. All requests that are not named here act on an object; a number above the last is no request.
 pub enum Action {
     Login,
     Clone,

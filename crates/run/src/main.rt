@@ -1,7 +1,9 @@
 // The run program of document 01: reads `setup.bin` and calls from standard input, and prints a line for each call. Each read is answered at once
 // with the lines of the calls that it completed. What cannot be read or written ends the program, and is told on standard error.
 ghost use Prim.Native.Nat.{_<_, _^_};
+ghost use Rattle.run.specs.AllReads.{Turn};
 use answers::SetupOutcome;
+use console::Input;
 use console::Kept;
 use state::Facility;
 
@@ -10,10 +12,12 @@ const READS: u64 = 1 << 53;
 
 const CALLS: u64 = 1 << 62;
 
-// After a read: how many calls are done, the bytes of the next one, and whether more is to be read.
+// After a read: how many calls are done, what was read, how many bytes the lines have and how many of them were written, and whether more is to be read.
 struct After {
     done: u64,
-    kept: Kept,
+    input: Input,
+    length: usize,
+    taken: usize,
     more: bool,
 }
 
@@ -26,23 +30,28 @@ fn turn(
     out: &mut [u8],
 ) -> After
     requires { ⌜ done < 2 ^ 62 ⌝ }
+    ensures { λ r. ⌜ Turn kept done (now (f .entry)) (now (f .exit)) (now (bytes .exit)) (now (out .entry)) (now (out .exit)) r ⌝ }
 {
     let input = console::read_calls(bytes, kept);
     let lined = input.lined;
-    let rest = input.kept;
+    let next = done + (lined as u64) / 4;
     if input.failed {
         return After {
-            done,
-            kept: rest,
+            done: next,
+            input,
+            length: 0,
+            taken: 0,
             more: false,
         };
     }
-    let n = lines::put_block_in(f, done + 1, &bytes[..lined], out);
-    let written = console::write_lines(&out[..n]);
+    let length = lines::put_block_in(f, done + 1, &bytes[..lined], out);
+    let written = console::write_lines(&out[..length]);
     After {
-        done: done + (lined as u64) / 4,
-        kept: rest,
-        more: written & input.more,
+        done: next,
+        input,
+        length,
+        taken: written.taken,
+        more: written.all & input.more,
     }
 }
 
@@ -63,8 +72,9 @@ fn run(start: Facility) {
         if !t.more {
             return;
         }
+        let input = t.input;
         done = t.done;
-        kept = t.kept;
+        kept = input.kept;
         k += 1;
     }
 }
@@ -76,7 +86,9 @@ fn refuse(number: u8, index: u16) {
 }
 
 fn main() {
-    let reading = console::read_setup();
+    let mut bytes = io::large_buffer();
+    let read = console::read_setup(&mut bytes);
+    let reading = read.reading;
     let f = reading.facility;
     let outcome = reading.outcome;
     match outcome {

@@ -1,8 +1,14 @@
 // A run in words: reads `setup.bin` and calls from standard input as the run program does, and prints a line in words for each call. Its stored
 // case is the story of docs/LEVELS.md.
 ghost use Prim.Native.Nat.{_≤_, _<_, _^_};
+ghost use mathlib.Core.Bool.{true};
+ghost use mathlib.Core.Path.{_≡_};
 ghost use lib.ListN.{length};
+ghost use Rattle.rules.specs.Histories.{run as Histories·run};
+ghost use Rattle.rules.specs.Lines.{callsOf};
+ghost use Rattle.run_words.specs.Turns.{Turn};
 use answers::SetupOutcome;
+use console::Input;
 use console::Kept;
 use state::Facility;
 
@@ -26,11 +32,11 @@ struct Told {
     written: bool,
 }
 
-// After a read: the facility, how many calls are done, the bytes of the next one, and whether more is to be read.
+// After a read: the facility, how many calls are done, what was read, and whether more is to be read.
 struct After {
     facility: Facility,
     done: u64,
-    kept: Kept,
+    input: Input,
     more: bool,
 }
 
@@ -45,15 +51,17 @@ fn write_full(lines: &[u8]) -> Stored
             written: true,
         };
     }
+    let written = console::write_lines(lines);
     Stored {
         place: 0,
-        written: console::write_lines(lines),
+        written: written.all,
     }
 }
 
 // Prints the calls of a block, the first of which has this index, and stops where a line cannot be written.
 fn tell_block(start: Facility, first: u64, calls: &[u8]) -> Told
     requires { ⌜ first < 2 ^ 63 ⌝ }
+    ensures { λ r. ⌜ (r .written ≡ true → r .facility ≡ Histories·run start (callsOf (now (calls .entry)))) ⌝ }
 {
     let n = calls.len();
     let mut out = io::large_buffer();
@@ -74,29 +82,41 @@ fn tell_block(start: Facility, first: u64, calls: &[u8]) -> Told
         }
         place = stored.place;
     }
+    let written = console::write_lines(&out[..place]);
     Told {
         facility: f,
-        written: console::write_lines(&out[..place]),
+        written: written.all,
     }
+}
+
+// Prints `short` where bytes are left over of so many, and all before it was written; whether all was.
+fn tell_short(lined: usize, written: bool) -> bool
+    ensures { λ r. ⌜ (r ≡ true → written ≡ true) ⌝ }
+{
+    if !written {
+        return false;
+    }
+    if lined % 4 == 0 {
+        return true;
+    }
+    let short = console::write_lines(b"short\n");
+    short.all
 }
 
 // Reads calls, and prints those that are whole; at the end of the input `short`, where bytes are left over.
 fn turn(f: Facility, done: u64, bytes: &mut [u8], kept: Kept) -> After
     requires { ⌜ done < 2 ^ 62 ⌝ }
+    ensures { λ r. ⌜ Turn kept f done (now (bytes .exit)) r ⌝ }
 {
     let input = console::read_calls(bytes, kept);
     let lined = input.lined;
-    let rest = input.kept;
     let told = tell_block(f, done + 1, &bytes[..lined]);
     let facility = told.facility;
-    let mut written = told.written & !input.failed;
-    if written & (lined % 4 != 0) {
-        written = console::write_lines(b"short\n");
-    }
+    let written = tell_short(lined, told.written & !input.failed);
     After {
         facility,
         done: done + (lined as u64) / 4,
-        kept: rest,
+        input,
         more: written & input.more,
     }
 }
@@ -115,9 +135,10 @@ fn run(start: Facility) {
         if !t.more {
             return;
         }
+        let input = t.input;
         f = t.facility;
         done = t.done;
-        kept = t.kept;
+        kept = input.kept;
         k += 1;
     }
 }
@@ -129,7 +150,9 @@ fn refuse(number: u8, index: u16) {
 }
 
 fn main() {
-    let reading = console::read_setup();
+    let mut bytes = io::large_buffer();
+    let read = console::read_setup(&mut bytes);
+    let reading = read.reading;
     let f = reading.facility;
     let outcome = reading.outcome;
     match outcome {

@@ -1,6 +1,5 @@
--- Laws that only this crate's proofs cite, and proofs of its statements.
+-- Laws that only this crate's proofs cite.
 pub mod SameNumber
 pub mod ReadingLoop
 pub mod NewNumbers
 pub mod WritingLoop
-pub mod RoundTrips

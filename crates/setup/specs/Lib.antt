@@ -1,5 +1,4 @@
--- Definitions beside document 01's: what the reader keeps, records stored into a lent buffer, and the round trips there; and a law of the writer.
+-- Definitions beside document 01's: what the reader keeps, and records stored into a lent buffer; and a law of the writer.
 pub mod Progress
 pub mod Writing
-pub mod LentRoundTrips
 pub mod Laws

@@ -6,6 +6,7 @@ use mathlib.Core.List.{List}
 use lib.Dec.{leb, eqb, ltb}
 use Rattle.labels.specs.Decisions.{_and_, _or_, ask, asked, at}
 use Rattle.rules.specs.Kinds.{kindOf, placeOf, allowedBy}
+use Rattle.rules.specs.Requests.{directoryKind}
 use Rattle.rules.specs.declared.SetupRecord.{SetupRecord}
 
 abbrev pub fitsAfter : Progress → ℕ → Bool
@@ -17,7 +18,7 @@ countAfter p kind = cond (eqb (p .kind) kind) (p .count) 0
 -- 19, by the kinds of the objects entered so far and how many there are
 unfoldable pub parentFitsIn : List ℕ → ℕ → SetupRecord → Bool
 parentFitsIn kinds entered r =
-    asked (eqb (r .kind) 2) (eqb (r .six) 0 or (ltb (r .six - 1) entered and eqb (at kinds (r .six - 1)) 1))
+    asked (eqb (r .kind) 2) (eqb (r .six) 0 or (ltb (r .six - 1) entered and eqb (at kinds (r .six - 1)) directoryKind))
 
 -- the number of a record, where `fit` answers 19
 unfoldable pub numberAfter : Progress → Bool → SetupRecord → ℕ

@@ -20,6 +20,7 @@ use rules::Reading;
 use rules::SetupRecord;
 use state::Facility;
 use state::Object;
+use state::Process;
 use state::Switches;
 use state::User;
 
@@ -74,7 +75,7 @@ fn users_kind() -> Kind
     Kind {
         place: 2,
         most: state::USERS as u16,
-        one: Byte::Upto(15),
+        one: Byte::Upto(Process::TOP),
         two: Byte::Upto(2),
         three: Byte::Upto(1),
         four: Byte::Upto(labels::ALL_CATEGORIES),
@@ -94,8 +95,8 @@ fn objects_kind() -> Kind
     Kind {
         place: 3,
         most: opens::OBJECTS as u16,
-        one: Byte::Upto(3),
-        two: Byte::OrUnset(15),
+        one: Byte::Upto(rules::LAST_KIND),
+        two: Byte::OrUnset(Process::TOP),
         three: Byte::OrUnset(2),
         four: Byte::Upto(1),
         five: Byte::Bits(ALL_FLAGS),
@@ -209,7 +210,7 @@ fn parent_fits(kinds: &[u8], entered: u8, r: SetupRecord) -> bool
         return true;
     }
     let t = r.six - 1;
-    let directory = labels::at(kinds, t as usize) == 1;
+    let directory = labels::at(kinds, t as usize) == rules::DIRECTORY_KIND;
     (r.kind != 2) | ((t < entered) & directory)
 }
 

@@ -146,6 +146,12 @@ told i f c =
 abbrev pub sentence : ℕ → Facility → Call → List ℕ
 sentence i f c = sentenceText (told i f c)
 
--- a refused set-up
+-- a refused set-up: of a length that is not allowed no record is at fault
+abbrev pub refusedLength : ℕ
+refusedLength = 14
+
 unfoldable pub setupSentence : ℕ → ℕ → List ℕ
-setupSentence n i = ascii "set-up refused at record " ++ decimal i ++ filled (ascii ": # !" ++ (lineFeed ∷ [])) (n ∷ n ∷ [])
+setupSentence n i =
+    cond (eqb n refusedLength)
+    (filled (ascii "set-up refused: # !" ++ (lineFeed ∷ [])) (n ∷ n ∷ []))
+    (ascii "set-up refused at record " ++ decimal i ++ filled (ascii ": # !" ++ (lineFeed ∷ [])) (n ∷ n ∷ []))

@@ -21,6 +21,9 @@ use state::User;
 // How many bytes a buffer for lines has. An array and not a slice: a function that hands it on is then checked in two thirds of the time.
 pub const BUFFER: usize = 65536;
 
+// The number of a set-up of which no record is at fault: its length is not allowed.
+const REFUSED_LENGTH: u8 = 14;
+
 // The conditions that failed, and the object that the flag comes from which forbids the request.
 struct Reason {
     failed: Failed,
@@ -352,6 +355,9 @@ pub fn put_setup(out: &mut [u8; BUFFER], number: u8, index: u64) -> usize
     ensures { λ r. ⌜ Stored (now (out .entry)) 0 (setupSentence number index) (now (out .exit)) r ⌝ }
     ensures { λ r. ⌜ Counts r (now (out .exit)) ⌝ }
 {
+    if number == REFUSED_LENGTH {
+        return put_filled(out, 0, b"set-up refused: # !\n", &[number, number]);
+    }
     let mut p = text::put_text(out, 0, b"set-up refused at record ");
     p = text::put_decimal(out, p, index);
     put_filled(out, p, b": # !\n", &[number, number])

@@ -1,33 +1,32 @@
--- What is lined is within the buffer, what is kept stands behind it, and what was kept before stands in front.
-use Prim.Native.Nat.{ℕ, _+_, _≤_}
-use mathlib.Core.Path.{_≡_, sym, _∙_, ap}
+-- What is lined is within the buffer, and all that is told follows from what the system said.
+use Prim.Native.Nat.{_≤_, _<_}
+use mathlib.Core.Path.{sym}
+use lib.Signed.{mag}
 use lib.ListN.{length}
 use lib.Seq.{length-take-le}
 use native.Mathlib.Omega.{arith}
 use borrow.Author.Needs.{needs}
-use Rattle.console.specs.declared.Kept.{Kept}
-use Rattle.console.specs.Files.{keptFrom}
-use Rattle.console.proofs.Front.{continues}
+use Rattle.console.proofs.Front.{calls-read}
+use Rattle.console.proofs.Said.{held, held-is}
 use Rattle.console.proofs.read_calls.Statement.{statement}
 use Rattle.console.proofs.read_calls.Tie as tie
 
 returns : tie.Need-returns
 returns c =
-    let c2 = c .before .before in
-    let got = c2 .before .before .before .read-behind in
-    let n = c2 .to-line .result in
-    let k = c .kept-from .result in
-    let h : n ≤ length (got .last .1 .1 .0) = omega (arith, c2 .to-line .ensures, got .ensures .0) in
-    let e : got .result .total ≡ n + k .count = omega (arith, c2 .to-line .ensures, ap (λ (x : Kept). x .count) (c .kept-from .ensures)) in
-    let put = c2 .before .before .before .before .before .before .before .before .put-kept in (
+    let c2 = c .before .before .before in
+    let got = c2 .before .before .before .before .before .read-behind in
+    let put = c2 .before .before .before .before .before .before .before .before .before .before .put-kept in
+    let h : c2 .to-line .result ≤ length (got .last .1 .1 .0) = omega (arith, c2 .to-line .ensures .1, got .ensures .0) in
+    let said = got .result .said in
+    let e = got .ensures in
+    let b : mag said < 9223372036854775808 = search needs in (
+      calls-read _ _ _ _ _ _ _ _ _ said (held said) (put .ensures .0) (put .ensures .1) (got .kept .1 .1 .0) (e .0 .0) (e .1 .0) (e .1 .1)
+          (held-is said b) (c2 .before .is-more .ensures) (c2 .to-line .ensures .0) (c .before .kept-from .ensures) (c .is-failure .ensures),
       (h, sym (length-take-le _ _ h)),
-      (
-        c .kept-from .ensures ∙ ap (λ (to : ℕ). keptFrom (got .last .1 .1 .0) n to) e,
-        continues _ _ (got .last .1 .1 .0) _ _ (got .kept .1 .1 .0) (put .ensures) (got .ensures .1 .1) (omega (arith, got .ensures .1 .0, e)),
-      ),
     )
 
 pub read-calls-spec : {M : Type 1} → statement M
 read-calls-spec =
     tie.close
-    (tie.spec (λ c κs. search needs) (λ c. search needs) (λ c κs. search needs) (λ c κs. search needs) (λ c κs. search needs) (λ c. search needs) returns)
+    (tie.spec (λ c κs. search needs) (λ c. search needs) (λ c κs. search needs) (λ c κs. search needs) (λ c κs. search needs) (λ c κs. search needs)
+    (λ c κs. search needs) (λ c. search needs) returns)

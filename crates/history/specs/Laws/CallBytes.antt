@@ -1,7 +1,7 @@
 -- A list of calls, four bytes after four bytes.
-use Prim.Native.Nat.{ℕ, _+_, _≤_, suc, _<_}
+use Prim.Native.Nat.{ℕ, _+_, _%_, _≤_, suc, _<_}
 use mathlib.Core.Path.{_≡_, sym, _∙_, ap, refl}
-use mathlib.Core.List.{List, _∷_, []}
+use mathlib.Core.List.{List, _∷_, [], _++_}
 use mathlib.Core.Bool.{true}
 use lib.ListN.{length, List·getD-eq-default, drop, length-drop}
 use lib.Seq.{drop-cons}
@@ -124,14 +124,13 @@ four-bytes (c ∷ cs) h =
     and-i _ _ (and-l _ _ q) (and-i _ _ (and-l _ _ (and-r _ _ q)) (and-i _ _ (and-l _ _ (and-r _ _ (and-r _ _ q)))
     (and-i _ _ (and-r _ _ (and-r _ _ (and-r _ _ q))) (four-bytes cs (and-r _ _ h)))))
 
-pub calls-four : (bs : List ℕ) → allBytes bs ≡ true → allFourBytes (callsOf bs) ≡ true
-unfolding allFourBytes callsOf allBytes
-calls-four [] h = refl
-calls-four (a ∷ []) h = refl
-calls-four (a ∷ b ∷ []) h = refl
-calls-four (a ∷ b ∷ c ∷ []) h = refl
-calls-four (a ∷ b ∷ c ∷ d ∷ bs) h =
-    let q = and-r _ _ h in
-    let r = and-r _ _ q in
-    let s = and-r _ _ r in
-    and-i _ _ (and-i _ _ (and-l _ _ h) (and-i _ _ (and-l _ _ q) (and-i _ _ (and-l _ _ r) (and-l _ _ s)))) (calls-four bs (and-r _ _ s))
+-- the calls of bytes behind whole calls
+pub calls-joined : (a b : List ℕ) → length a % 4 ≡ 0 → callsOf (a ++ b) ≡ callsOf a ++ callsOf b
+unfolding callsOf
+calls-joined [] b h = refl
+calls-joined (w ∷ []) b h = absurd (omega arith)
+calls-joined (w ∷ x ∷ []) b h = absurd (omega arith)
+calls-joined (w ∷ x ∷ y ∷ []) b h = absurd (omega arith)
+calls-joined (w ∷ x ∷ y ∷ z ∷ a) b h =
+    let k : length a % 4 ≡ 0 = omega arith in
+    ap (λ (cs : List Call). record { request = w; process = x; target = y; extra = z } ∷ cs) (calls-joined a b k)

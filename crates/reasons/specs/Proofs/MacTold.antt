@@ -20,7 +20,7 @@ use Rattle.rules.specs.declared.Action.the-variants.{Login, Clone, SendSignal, 
 use Rattle.rules.specs.declared.Class.{Class}
 use Rattle.rules.specs.declared.Class.the-variants.{Absent, Reads, Writes, Both, NoCondition}
 use Rattle.rules.specs.declared.View.{View}
-use Rattle.rules.specs.Requests.{actionOf, actionCode, isAbsent, lastRequest, inDirectory, needsObject}
+use Rattle.rules.specs.Requests.{actionOf, actionCode, unknownCode, isAbsent, lastRequest, inDirectory, needsObject}
 use Rattle.rules.specs.Modules.{classIn, wanted, mayRead, mayWrite, maySet, macClass, macObject, macSignal, macRule, macAnswer}
 use Rattle.reasons.specs.Reasons.{MacFailed, nothingOfMac, unless, readFailed, writeFailed, setFailed, classFailed, objectFailed, signalFailed}
 use Rattle.reasons.specs.Reasons.{aloneFailed, macFailed}
@@ -109,7 +109,7 @@ unfolding macSignal signalFailed
 signal r u receiver = record { unset = grant-undefined _; refuses = grant-refuses _ _ (equal-told _) }
 
 -- a request that is one, on an object whose kind has it where an object is needed
-rule : (k : Action) (v : View) (c : Call) → eqb (actionCode k) 23 ≡ false
+rule : (k : Action) (v : View) (c : Call) → eqb (actionCode k) unknownCode ≡ false
     → asked (needsObject k (c .extra)) (not (isAbsent (classIn v c))) ≡ true
     → Tells (macRule k v c)
     (cond (needsObject k (c .extra)) (objectFailed (classIn v c) (v .target .object) (v .caller) (v .owner)) (aloneFailed k v c))
@@ -125,7 +125,7 @@ rule Create v c n h =
 rule OnObject v c n h = object (classIn v c) (v .target .object) (v .caller) (v .owner) h
 rule Unknown v c n h = clash refl n
 
-known : (r : ℕ) → leb r lastRequest ≡ true → eqb (actionCode (actionOf r)) 23 ≡ false
+known : (r : ℕ) → leb r lastRequest ≡ true → eqb (actionCode (actionOf r)) unknownCode ≡ false
 unfolding actionOf
 known r h =
     rw h

@@ -3,12 +3,11 @@ use Rattle.requests.proofs.class_of.Statement.{statement}
 use Rattle.requests.proofs.class_of.Tie as tie
 use mathlib.Core.Path.{sym, _∙_, ap}
 use borrow.Author.Needs.{needs}
-use native.Mathlib.Omega.{arith}
 use Rattle.requests.specs.ClassCodes.{classNamed}
 use Rattle.requests.proofs.ClassCodes.{named-coded, no-request, no-kind}
 
 returns : tie.Need-returns
-returns c = sym (no-request (c .before .args .request) _ (omega (arith, c .if1 .taken)))
+returns c = sym (no-request _ _ (c .if1 .taken))
 
 returns-2 : tie.Need-returns-2
 returns-2 c = sym (no-kind _ _ (c .if2 .taken))

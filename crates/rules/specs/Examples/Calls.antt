@@ -11,7 +11,7 @@ use Rattle.rules.specs.Computed.{everything, call, switches, user, objec
 use Rattle.rules.specs.Setup.{fresh}
 use Rattle.rules.specs.Calls.{objectGiven, query, after, enforce}
 use Rattle.rules.specs.Histories.{run, outcomes, trustedLogin, trustedLogins, past, ownerAfter, isStart, isCloning}
-use Rattle.rules.specs.Promises.{denialsOf, sumTo}
+use Rattle.rules.specs.Promises.{denialsIn, numbersGiven, upFrom, denialsOf, sumTo}
 use Rattle.rules.specs.Examples.SetupRecords.{filesOfLevel0}
 
 -- a call's number, its object, the answers of MAC, FC and SIM, and the combined one
@@ -142,6 +142,17 @@ owners-told = refl
 pub denials-told : map (λ u. denialsOf u (past office signalled [])) (0 ∷ 1 ∷ 2 ∷ 3 ∷ []) ≡ 2 ∷ 2 ∷ 1 ∷ 0 ∷ []
 unfolding everything past ownerAfter isStart isCloning denialsOf
 denials-told = refl
+
+-- all denials of a history, and the numbers that its accepted creates give: not those of a refused one, nor of another request
+pub histories-counted :
+    denialsIn (outcomes office signalled) ∷ numbersGiven office (call 21 0 0 1 ∷ call 4 0 0 2 ∷ call 4 1 0 2 ∷ call 13 0 1 0 ∷ call 4 0 9 0 ∷ call 4 0 0 3 ∷ [])
+    ≡ 5 ∷ upFrom 2 2
+unfolding everything denialsIn numbersGiven upFrom
+histories-counted = refl
+
+pub counted-up : upFrom 2 0 ∷ upFrom 2 3 ∷ [] ≡ [] ∷ (2 ∷ 3 ∷ 4 ∷ []) ∷ []
+unfolding upFrom
+counted-up = refl
 
 pub summed : map (λ n. sumTo n (λ k. k)) (0 ∷ 1 ∷ 2 ∷ 3 ∷ 4 ∷ []) ≡ 0 ∷ 0 ∷ 1 ∷ 3 ∷ 6 ∷ []
 unfolding sumTo

@@ -7,6 +7,21 @@ use Rattle.rules.specs.Computed.{everything, numbersBelow}
 use Rattle.rules.specs.Requests.{Action, Login, Clone, SendSignal, SetLevel, Terminate, Create, OnObject, Unknown, isLogin, isClone, isSendSignal}
 use Rattle.rules.specs.Requests.{isSetLevel, isCreate, needsObject, actionOf, Class, Absent, Reads, Writes, Both, NoCondition, classOf, isAbsent}
 use Rattle.rules.specs.Requests.{isNoCondition, observes, alters, Keep, Add, Close, CloseAll, openChange}
+use Rattle.rules.specs.Requests.{alterRequest, changeOwnerRequest, cloneRequest, closeRequest, createRequest, deleteRequest, deleteDataRequest}
+use Rattle.rules.specs.Requests.{executeRequest, getPermissionsDataRequest, getStatusDataRequest, modifyAccessDataRequest}
+use Rattle.rules.specs.Requests.{modifyPermissionsDataRequest, readRequest, readOpenRequest, readWriteOpenRequest, searchRequest, sendSignalRequest}
+use Rattle.rules.specs.Requests.{setLevelRequest, terminateRequest, writeRequest, writeOpenRequest, loginRequest}
+use Rattle.rules.specs.Requests.{fileKind, directoryKind, channelKind, controlDataKind}
+
+-- the names of the requests and of the kinds of objects, in the paper's order
+pub in-order :
+    (alterRequest ∷ changeOwnerRequest ∷ cloneRequest ∷ closeRequest ∷ createRequest ∷ deleteRequest ∷ deleteDataRequest ∷ executeRequest
+    ∷ getPermissionsDataRequest ∷ getStatusDataRequest ∷ modifyAccessDataRequest ∷ modifyPermissionsDataRequest ∷ readRequest ∷ readOpenRequest
+    ∷ readWriteOpenRequest ∷ searchRequest ∷ sendSignalRequest ∷ setLevelRequest ∷ terminateRequest ∷ writeRequest ∷ writeOpenRequest ∷ loginRequest ∷ [])
+    ∷ (fileKind ∷ directoryKind ∷ channelKind ∷ controlDataKind ∷ [])
+    ∷ []
+    ≡ numbersBelow 22 ∷ numbersBelow 4 ∷ []
+in-order = refl
 
 -- "2 clone, 4 create, 16 send-signal, 17 set-level, 18 terminate, 21 login"; the others up to 21 act on an object
 pub request-targets :

@@ -10,8 +10,8 @@ use Rattle.answers.specs.Outcomes.{answersOf, numberOf, notCared}
 use Rattle.state.specs.State.{objectsIn, dropObject}
 use Rattle.rules.specs.Types.{Call, Facility}
 use Rattle.rules.specs.Requests.{classOf}
-use Rattle.rules.specs.FileFlags.{has, effective, forbids, flagSource}
-use Rattle.rules.specs.Setup.{fresh, listed, setupBytes}
+use Rattle.rules.specs.FileFlags.{has, effective, forbidding, forbids, flagSource}
+use Rattle.rules.specs.Setup.{fresh, listed, liveObjects, setupBytes}
 use Rattle.rules.specs.Calls.{query}
 use Rattle.rules.specs.Histories.{run}
 use Rattle.rules.specs.Computed.{everything, call, switchesWith, user, flaggedObject, numbersBelow, flagBytes, numbersFrom}
@@ -46,6 +46,16 @@ pub flags-together :
 unfolding everything
 flags-together = refl
 
+-- the flag that forbids: delete, execute and write-open of a file, delete of a directory and create in it
+pub flags-told :
+    map (λ v. forbidding v 5 (classOf 5 0) 0 ∷ forbidding v 7 (classOf 7 0) 0 ∷ forbidding v 20 (classOf 20 0) 0
+    ∷ forbidding v 5 (classOf 5 1) 1 ∷ forbidding v 4 (classOf 4 1) 1 ∷ []) (0 ∷ 1 ∷ 2 ∷ 4 ∷ 8 ∷ 12 ∷ 14 ∷ 15 ∷ 128 ∷ [])
+    ≡ (0 ∷ 0 ∷ 0 ∷ 0 ∷ 0 ∷ []) ∷ (1 ∷ 0 ∷ 1 ∷ 1 ∷ 1 ∷ []) ∷ (0 ∷ 2 ∷ 0 ∷ 0 ∷ 0 ∷ []) ∷ (4 ∷ 0 ∷ 0 ∷ 4 ∷ 0 ∷ []) ∷ (0 ∷ 0 ∷ 0 ∷ 8 ∷ 8 ∷ [])
+    ∷ (4 ∷ 0 ∷ 0 ∷ 4 ∷ 8 ∷ []) ∷ (4 ∷ 2 ∷ 0 ∷ 4 ∷ 8 ∷ []) ∷ (1 ∷ 2 ∷ 1 ∷ 1 ∷ 1 ∷ []) ∷ (0 ∷ 0 ∷ 0 ∷ 0 ∷ 0 ∷ [])
+    ∷ []
+unfolding everything
+flags-told = refl
+
 -- each flag is its own bit
 pub flags-apart : map (λ m. map (has m) (1 ∷ 2 ∷ 4 ∷ 8 ∷ 128 ∷ 143 ∷ [])) (1 ∷ 2 ∷ 4 ∷ 8 ∷ 128 ∷ []) ≡ map (λ m. map (λ v. eqb m v or eqb v 143)
     (1 ∷ 2 ∷ 4 ∷ 8 ∷ 128 ∷ 143 ∷ [])) (1 ∷ 2 ∷ 4 ∷ 8 ∷ 128 ∷ [])
@@ -71,10 +81,10 @@ pub inherited :
 unfolding everything
 inherited = refl
 
--- where each of the flags 1, 2, 4, 8 and 128 comes from, of objects 0, 1, 4 and 6
+-- where each of the flags 1, 2, 4, 8 and 128 comes from, of objects 0, 1, 3, 4 and 6
 pub sources :
-    map (λ t. map (flagSource (objectsIn (fresh (tree 0 1))) t) (1 ∷ 2 ∷ 4 ∷ 8 ∷ 128 ∷ [])) (0 ∷ 1 ∷ 4 ∷ 6 ∷ [])
-    ≡ (0 ∷ 0 ∷ 0 ∷ 0 ∷ 255 ∷ []) ∷ (0 ∷ 0 ∷ 255 ∷ 0 ∷ 1 ∷ []) ∷ (0 ∷ 0 ∷ 4 ∷ 0 ∷ 4 ∷ []) ∷ (255 ∷ 255 ∷ 255 ∷ 255 ∷ 6 ∷ [])
+    map (λ t. map (flagSource (objectsIn (fresh (tree 0 1))) t) (1 ∷ 2 ∷ 4 ∷ 8 ∷ 128 ∷ [])) (0 ∷ 1 ∷ 3 ∷ 4 ∷ 6 ∷ [])
+    ≡ (0 ∷ 0 ∷ 0 ∷ 0 ∷ 255 ∷ []) ∷ (0 ∷ 0 ∷ 255 ∷ 0 ∷ 1 ∷ []) ∷ replicate 5 255 ∷ (0 ∷ 0 ∷ 4 ∷ 0 ∷ 4 ∷ []) ∷ (255 ∷ 255 ∷ 255 ∷ 255 ∷ 6 ∷ [])
     ∷ []
 unfolding everything
 sources = refl
@@ -161,6 +171,21 @@ pub parent-questions :
     ∷ (0 ∷ 0 ∷ []) ∷ []
 unfolding everything
 parent-questions = refl
+
+-- a user is no directory, though byte 1 is 1: the first object has no parent; nor is the object of the next number
+pub no-directory-yet :
+    numberAndIndex (switchesWith 0 0 ++ user 1 0 0 ++ flaggedObject 0 0 0 1)
+    ∷ numberAndIndex (switchesWith 0 0 ++ user 1 0 0 ++ flaggedObject 1 0 0 0 ++ flaggedObject 0 0 0 2) ∷ []
+    ≡ (19 ∷ 2 ∷ []) ∷ (19 ∷ 3 ∷ []) ∷ []
+unfolding everything
+no-directory-yet = refl
+
+-- the live objects, by their flags: all, without file 1, without directory 2
+pub live-flags :
+    map (λ f. map (λ o. o .flags) (liveObjects f)) (fresh (tree 1 1) ∷ dropObject (fresh (tree 1 1)) 1 ∷ dropObject (fresh (tree 1 1)) 2 ∷ [])
+    ≡ (15 ∷ 128 ∷ 128 ∷ 0 ∷ 132 ∷ 128 ∷ 128 ∷ []) ∷ (15 ∷ 128 ∷ 0 ∷ 132 ∷ 128 ∷ 128 ∷ []) ∷ (15 ∷ 128 ∷ 0 ∷ 132 ∷ 128 ∷ 128 ∷ []) ∷ []
+unfolding everything
+live-flags = refl
 
 -- what a set-up with flags and parents holds, and "the writer puts out parents by their new numbers": as read, without file 1, without directory 2
 pub parents-written :

@@ -71,6 +71,22 @@ pub not-counted :
 unfolding everything
 not-counted = refl
 
+-- a set-level and a signal leave the number that there is, the sender's and the receiver's
+pub number-kept :
+    numbers (login 0 0 ∷ reads 0 1 ∷ call 17 0 0 2 ∷ []) 0
+    ∷ map (numbers (login 0 0 ∷ login 1 0 ∷ reads 0 1 ∷ writes 1 2 ∷ writes 1 1 ∷ call 16 0 1 0 ∷ [])) (0 ∷ 1 ∷ [])
+    ≡ (1 ∷ 1 ∷ []) ∷ (1 ∷ 1 ∷ []) ∷ (2 ∷ 2 ∷ []) ∷ []
+unfolding everything
+number-kept = refl
+
+-- create in a directory whose number is a kind, 2 or 3
+pub moved-by-create :
+    map (λ t. (let f = fresh (switches 1 0 0 ++ user 2 0 0 ++ object 1 1 0 0 ++ object 1 1 0 0 ++ object 1 1 0 0 ++ object 1 1 0 0) in
+    let cs = login 0 0 ∷ call 4 0 t 0 ∷ [] in (processOf (run f cs) 0) .moves ∷ movesOf (past f cs []) 0 ∷ [])) (1 ∷ 2 ∷ 3 ∷ [])
+    ≡ (1 ∷ 1 ∷ []) ∷ (1 ∷ 1 ∷ []) ∷ (1 ∷ 1 ∷ []) ∷ []
+unfolding everything
+moved-by-create = refl
+
 -- with MAC off
 pub off-not-counted :
     (processOf (run (fresh (shelf 0)) (login 0 0 ∷ reads 0 2 ∷ [])) 0) .moves ∷ movesOf (past (fresh (shelf 0)) (login 0 0 ∷ reads 0 2 ∷ []) []) 0 ∷ []

@@ -17,7 +17,7 @@ use Rattle.labels.specs.Labels.{Label, lawful, given, _⊑_}
 use Rattle.labels.specs.Laws.Labels.{⊑-refl, eq-same, join-least, bottom-least, below-lawful, lawful-given, lawful-level, lawful-set}
 use Rattle.answers.specs.Answers.{passes}
 use Rattle.answers.specs.Laws.Answers.{grant-passes}
-use Rattle.rules.specs.Flow.{fourBytes, allFourBytes, loginsBy, MacAlone, Carries, ExactlyWhen}
+use Rattle.rules.specs.Flow.{fourBytes, allFourBytes, loginsBy, MacAlone, Reaches, Carries, ExactlyWhen}
 use Rattle.rules.specs.Histories.{trustedLogins, history}
 use Rattle.rules.specs.Requests.{Reads, Writes, Both, NoCondition, Keep, Add, isLogin, actionOf}
 use Rattle.rules.specs.Computed.{requestsComputed}
@@ -394,9 +394,9 @@ module _ (f₀ : Facility) (F : Fresh f₀) (u x y : ℕ) (hx : x < f₀ .entere
         (λ n. record { calls = direct; plain = plain-direct; reached = reach-direct n })
 
 pub exactly-when : ExactlyWhen
-exactly-when s A a b ha hb u C = (rises, falls)
+exactly-when s A a b ha hb u C = ((rises, λ h. reached (falls h)), λ W. falls (rises W))
   where
-    rises : Carries s u a b → labelOf (fresh s) a ⊑ labelOf (fresh s) b
+    rises : Reaches s a b → labelOf (fresh s) a ⊑ labelOf (fresh s) b
     rises W =
         by-eq b a
         (λ e. subst⁻¹ (λ (k : ℕ). labelOf (fresh s) a ⊑ labelOf (fresh s) k) e (⊑-refl _))
@@ -413,3 +413,6 @@ exactly-when s A a b ha hb u C = (rises, falls)
           untrusted = W .reached .untrusted;
           holding = W .reached .holding;
         }
+
+    reached : Carries s u a b → Reaches s a b
+    reached W = record { calls = W .calls; untrusted = W .untrusted; holding = W .holding }

@@ -2,7 +2,7 @@
 use Prim.Native.Nat.{ℕ, _+_, _-_, _≤_, _<_}
 use mathlib.Core.Path.{_≡_, refl, sym, _∙_, ap, subst⁻¹}
 use mathlib.Core.Logic.{_≢_}
-use mathlib.Core.Bool.{Bool, true, false}
+use mathlib.Core.Bool.{Bool, true, false, cond}
 use mathlib.Core.List.{List, [], _∷_}
 use lib.Dec.{eqb, ltb}
 use native.Mathlib.Omega.{arith}
@@ -16,7 +16,7 @@ use Rattle.opens.specs.Opens.{mostObjects}
 use Rattle.rules.specs.Kinds.{SetupRecord, switchesKind, usersKind, objectsKind, kindOf, countOf, fits, room, allowedBy, directoryAmong}
 use Rattle.rules.specs.Kinds.{parentFits, recordNumber}
 use Rattle.rules.specs.Setup.{sized, switchesEntered, userEntered, objectEntered, enterRecord, enterAll, readSetup, switchesRecord, userRecord}
-use Rattle.rules.specs.Setup.{objectRecord}
+use Rattle.rules.specs.Setup.{objectRecord, Reading}
 use Rattle.rules.specs.Proofs.Regular.{kindAt, ParentFit, Regular, regular-user, regular-object, none-lawful}
 use Rattle.rules.specs.Proofs.Sound.{at-zeros, sound-blank, blank-closed, blank-process}
 use Rattle.rules.specs.Proofs.Records.{kept, kept-record, allowed-as, Accepts, accepts, first-kind, by-kind}
@@ -41,13 +41,17 @@ blank-entered : (s : Switches) → (blank s) .entered ≡ 0
 unfolding blank
 blank-entered s = refl
 
-fresh-blank : (s : Switches) → allowedBy switchesKind (switchesRecord (switchesOf (blank s))) ≡ true → Fresh (blank s)
+blank-switches : (s : Switches) → switchesOf (blank s) ≡ s
+unfolding blank
+blank-switches s = refl
+
+fresh-blank : (s : Switches) → allowedBy switchesKind (switchesRecord s) ≡ true → Fresh (blank s)
 unfolding noProcess
 fresh-blank s h =
     record {
       regular = record {
         sound = sound-blank s;
-        switches = h;
+        switches = subst⁻¹ (λ (x : Switches). allowedBy switchesKind (switchesRecord x) ≡ true) (blank-switches s) h;
         user = λ u b. absurd (omega (arith, blank-users s));
         object = λ t b. absurd (omega (arith, blank-entered s));
         parent = λ t b. absurd (omega (arith, blank-entered s));
@@ -60,7 +64,7 @@ fresh-blank s h =
     }
 
 pub fresh-refused : Fresh (blank allOff)
-unfolding blank allowedBy _and_
+unfolding allowedBy _and_
 fresh-refused = fresh-blank allOff refl
 
 fresh-user : (f : Facility) (u : User) → Fresh f → f .users < mostUsers → allowedBy usersKind (userRecord u) ≡ true → Fresh (putUser f u)
@@ -207,15 +211,15 @@ unfolding directoryAmong
 among-none n = refl
 
 read-first : (f : Facility) (r : SetupRecord) → Accepts [] r → Read (r ∷ []) (enterRecord f r)
-unfolding kindOf countOf blank
+unfolding kindOf countOf
 read-first f r A =
     let (entered, is, e) = as-switches f r A in
     let a : allowedBy switchesKind r ≡ true = allowed-as 3 [] r e (A .allowed) in
     rw entered (
       fresh-blank _ (subst⁻¹ (λ (x : SetupRecord). allowedBy switchesKind x ≡ true) is a),
       record {
-        users = sym (count-other 1 r [] (λ z. absurd (omega arith)));
-        entered = sym (count-other 2 r [] (λ z. absurd (omega arith)));
+        users = blank-users _ ∙ sym (count-other 1 r [] (λ z. absurd (omega arith)));
+        entered = blank-entered _ ∙ sym (count-other 2 r [] (λ z. absurd (omega arith)));
         directory = λ n. among-other n r [] (λ z. absurd (omega arith)) ∙ among-none n ∙ sym (blank-directory (switchesEntered r) n);
       },
     )
@@ -241,14 +245,19 @@ unfolding countOf
 read-none =
     (fresh-refused, record { users = blank-users allOff; entered = blank-entered allOff; directory = λ n. among-none n ∙ sym (blank-directory allOff n) })
 
+-- by whether the set-up, or the next record, is refused
+by-reading : (b : Bool) (x y : Reading) → (b ≡ true → Fresh (x .facility)) → (b ≡ false → Fresh (y .facility)) → Fresh ((cond b x y) .facility)
+by-reading true x y h k = h refl
+by-reading false x y h k = k refl
+
 fresh-all : (past : List SetupRecord) (f : Facility) (rs : List SetupRecord) → Read past f → Fresh ((enterAll past f rs) .facility)
 unfolding enterAll
 fresh-all past f [] D = D .0
 fresh-all past f (r ∷ rs) D =
-    by-test (eqb (recordNumber past r) 0)
-    (λ e. rw e (fresh-all (r ∷ past) (enterRecord f r) rs (read-record past f r D (accepts past r (eqb-true _ _ e)))))
-    (λ e. rw e fresh-refused)
+    by-reading (eqb (recordNumber past r) 0) _ _
+    (λ e. fresh-all (r ∷ past) (enterRecord f r) rs (read-record past f r D (accepts past r (eqb-true _ _ e))))
+    (λ e. fresh-refused)
 
 pub fresh-setup : (s : List ℕ) → Fresh ((readSetup s) .facility)
 unfolding readSetup
-fresh-setup s = by-test (sized s) (λ e. rw e (fresh-all [] _ _ read-none)) (λ e. rw e fresh-refused)
+fresh-setup s = by-reading (sized s) _ _ (λ e. fresh-all [] _ _ read-none) (λ e. fresh-refused)

@@ -10,12 +10,12 @@ use lib.Seq.{getD-append-seam}
 use native.Mathlib.Omega.{arith}
 use borrow.Author.Tests.{ltb-true, lt-ltb, le-leb}
 use Rattle.labels.specs.Decisions.{_and_, at, on}
-use Rattle.labels.specs.Laws.Decisions.{and-l, and-r, and-i, clash, by-test, by-eq}
+use Rattle.labels.specs.Laws.Decisions.{and-l, and-r, and-i, by-test, by-eq}
 use Rattle.state.specs.State.{Objects, objectsIn, objectIn, objectOf, live, putProcess, putObject}
 use Rattle.state.specs.Laws.ReadBack.{object-new, object-old, add-object}
 use Rattle.opens.specs.Opens.{mostObjects}
 use Rattle.rules.specs.Types.{Call, Process, Object, Facility}
-use Rattle.rules.specs.Requests.{Action, Login, Clone, SendSignal, SetLevel, Terminate, Create, OnObject, Unknown, actionOf, isCreate, inDirectory}
+use Rattle.rules.specs.Requests.{actionOf, isCreate, inDirectory}
 use Rattle.rules.specs.FileFlags.{addInherited, withoutNoDelete, flagsOf, parentOf, hasParent, inherits, effective, has}
 use Rattle.rules.specs.Modules.{viewOf, moved}
 use Rattle.rules.specs.Effects.{firstFlags, firstParent, created, effectFrom}
@@ -24,7 +24,7 @@ use Rattle.rules.specs.Histories.{run}
 use Rattle.rules.specs.Setup.{fresh, listed, liveObjects, newNumber, newParent, writtenObject, writtenObjects, setupBytes}
 use Rattle.rules.specs.Promises.{Inheritance}
 use Rattle.rules.specs.Proofs.Sound.{Sound, sound-process}
-use Rattle.rules.specs.Proofs.Passed.{Passed, passed, accepted-zero}
+use Rattle.rules.specs.Proofs.Passed.{create-passed}
 use Rattle.rules.specs.Proofs.Regular.{Regular, regular-run}
 use Rattle.rules.specs.Proofs.Fresh.{Fresh, fresh-setup}
 use Rattle.rules.specs.Proofs.Parents.{lives, new-below, new-all, listed-number, parent-none, parent-live, parent-dead}
@@ -158,18 +158,7 @@ module _ (f g : Facility) (R : Regular f) (G : Fresh g) (e : liveObjects g ≡ w
       (λ i. rw i))
       ∙ sym (effective-is (objectsIn f) t)
 
--- What is created in a directory.
-is-create : (k : Action) → isCreate k ≡ true → k ≡ Create
-is-create Login h = clash h refl
-is-create Clone h = clash h refl
-is-create SendSignal h = clash h refl
-is-create SetLevel h = clash h refl
-is-create Terminate h = clash h refl
-is-create Create h = refl
-is-create OnObject h = clash h refl
-is-create Unknown h = clash h refl
-
--- an object with add-inherited and an earlier live parent is put
+-- What is created in a directory: an object with add-inherited and an earlier live parent is put
 module _ (f : Facility) (o : Object) (t : ℕ) (S : Sound f) (room : f .entered < mostObjects) (v : live f t ≡ true)
     (fl : o .flags ≡ addInherited) (pa : o .parent ≡ t + 1) where
   new-flags : flagsOf (objectsIn (putObject f o)) (f .entered) ≡ addInherited
@@ -227,8 +216,7 @@ created-inherits : (f : Facility) (c : Call) → Regular f → accepted f c ≡ 
     → effective (objectsIn (after f c)) (f .entered) ≡ bitOr addInherited (withoutNoDelete (effective (objectsIn f) (c .target)))
 unfolding after effectFrom
 created-inherits f c R a k d =
-    let e = is-create _ k in
-    let q : Passed Create (viewOf f c) c = subst (λ (z : Action). Passed z (viewOf f c) c) e (passed _ (viewOf f c) c (accepted-zero f c a)) in
+    let (e, q) = create-passed f c a k in
     let room : f .entered < mostObjects = ltb-true _ _ (q .room) in
     let v : live f (c .target) ≡ true = rw d at (q .alive) in
     let w : (putProcess f (c .process) (moved (viewOf f c) c)) .entered < mostObjects = put-room f (c .process) _ room in

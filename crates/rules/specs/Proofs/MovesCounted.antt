@@ -12,13 +12,13 @@ use Rattle.labels.specs.Decisions.{_and_, _or_, on}
 use Rattle.labels.specs.Laws.Decisions.{and-l, and-r, clash, by-test}
 use Rattle.labels.specs.Labels.{Label, same, lawful}
 use Rattle.labels.specs.Laws.Labels.{eq-same, rank-lawful}
-use Rattle.state.specs.State.{Users, usersIn, userIn, userOf, processOf, runs, clearanceOf, mostMoves, putRefusals, counted, freshProcess, noProcess}
+use Rattle.state.specs.State.{Users, usersIn, userIn, userOf, processOf, runs, clearanceOf, mostMoves, putProcess, putOpens, putObject, dropObject}
+use Rattle.state.specs.State.{putRefusals, counted, freshProcess, noProcess}
 use Rattle.state.specs.Laws.ReadBack.{one-more}
 use Rattle.answers.specs.Answers.{passes}
 use Rattle.answers.specs.Laws.Answers.{passes-grant}
-use Rattle.answers.specs.Outcomes.{denies}
 use Rattle.rules.specs.Effects.{effectBy}
-use Rattle.rules.specs.Calls.{ownerIn, accepted, afterRefusal, after}
+use Rattle.rules.specs.Calls.{ownerIn, accepted, after}
 use Rattle.rules.specs.Requests.{Action, Login, Clone, SendSignal, SetLevel, Terminate, Create, OnObject, Unknown, Class, Absent, Reads, Writes, Both}
 use Rattle.rules.specs.Requests.{NoCondition, actionOf, isLogin, isClone, needsObject, observes, alters}
 use Rattle.rules.specs.Modules.{View, viewOf, classIn, wanted, macObject, macRule, movesTo, moveBy, setLevel, moved, levelled, signalled}
@@ -28,7 +28,7 @@ use Rattle.rules.specs.Histories.{run, Step, past, isStart, isCloning, o
 use Rattle.rules.specs.Promises.{Moves}
 use Rattle.rules.specs.Proofs.Passed.{Passed, passed, mac-passed, accepted-zero}
 use Rattle.rules.specs.Proofs.Processes.{Each, puts, putNumber, putBy, unput-login, unput-clone, unput-caller, each-effect, process-put, each-refused}
-use Rattle.rules.specs.Proofs.Processes.{effect-untouched}
+use Rattle.rules.specs.Proofs.Leaves.{after-leaves}
 use Rattle.rules.specs.Proofs.Moves.{object-granted, moved-is}
 use Rattle.rules.specs.Proofs.Regular.{Regular, regular-after, allowed-clearance}
 use Rattle.rules.specs.Proofs.Fresh.{fresh-setup}
@@ -258,16 +258,10 @@ module _ (f : Facility) (c : Call) (xs : List Step) where
         (moves-else p (no-start f c p (unput-login k c p u)) (no-cloning f c p (unput-clone k c p u)) (no-move p (unput-caller k c p u))) (G p r))
 
 -- no call changes the setting
-setting-refused : (f : Facility) (u n : ℕ) → setting (afterRefusal f u n) ≡ setting f
-unfolding afterRefusal counted putRefusals
-setting-refused f u n = by-test (denies n) (λ d. rw d) (λ d. rw d)
-
 setting-after : (f : Facility) (c : Call) → setting (after f c) ≡ setting f
-unfolding after
+unfolding putProcess putOpens putObject dropObject putRefusals
 setting-after f c =
-    by-test (accepted f c)
-    (λ h. rw h (ap (λ (x : ℕ × Users × List ℕ). (x .0, x .1)) (effect-untouched (actionOf (c .request)) f c)))
-    (λ h. rw h (setting-refused f (ownerIn f c) (number f c)))
+    after-leaves setting (record { process = λ g p r. refl; opens = λ g l. refl; object = λ g o. refl; dropped = λ g t. refl }) (λ g l. refl) f c
 
 counted-after : (f : Facility) (c : Call) (xs : List Step) → Regular f → AllCounted (setting f) xs f
     → AllCounted (setting f) (last f c ∷ xs) (after f c)

@@ -4,25 +4,24 @@ use mathlib.Core.Path.{_≡_, refl, _∙_, ap, subst}
 use mathlib.Core.Logic.{_≢_}
 use mathlib.Core.Bool.{Bool, true, false, not, cond}
 use mathlib.Core.List.{List, [], _∷_}
-use lib.Dec.{leb, ltb, eqb}
+use lib.Dec.{ltb, eqb}
 use lib.ListN.{length}
 use native.Mathlib.Omega.{arith}
 use borrow.Author.Tests.{ltb-true, lt-ltb, ne-eqb}
 use Rattle.rules.specs.Types.{Call, Object, Facility}
-use Rattle.labels.specs.Decisions.{_and_, asked, ask, at}
+use Rattle.labels.specs.Decisions.{_and_, ask, at}
 use Rattle.labels.specs.Laws.Decisions.{and-l, by-test}
 use Rattle.answers.specs.Outcomes.{denies, outcomeOf, objectNumberOf}
 use Rattle.opens.specs.Opens.{mostObjects}
 use Rattle.state.specs.State.{putProcess, putOpens, putObject, addObject, dropObject, putRefusals, counted, openBy}
-use Rattle.answers.specs.Answers.{isNotGranted, isUndefined}
 use Rattle.rules.specs.Effects.{effectFrom, effectBy}
 use Rattle.rules.specs.Calls.{ownerIn, accepted, objectGiven, query, afterRefusal, after}
 use Rattle.rules.specs.Histories.{run}
 use Rattle.rules.specs.Requests.{Action, Login, Clone, SendSignal, SetLevel, Terminate, Create, OnObject, Unknown, OpenChange, Keep, Add, Close}
-use Rattle.rules.specs.Requests.{CloseAll, actionOf, isSetLevel, isCreate, inDirectory, openChange}
+use Rattle.rules.specs.Requests.{CloseAll, actionOf, isCreate, inDirectory, openChange}
 use Rattle.rules.specs.Setup.{fresh}
-use Rattle.rules.specs.Modules.{View, viewOf, answers, moved}
-use Rattle.rules.specs.Promises.{numbersGiven, upFrom, PassedTo9, ObjectNumbers}
+use Rattle.rules.specs.Modules.{View, viewOf, moved}
+use Rattle.rules.specs.Promises.{numbersGiven, upFrom, passesTo9, ObjectNumbers}
 use Rattle.rules.specs.Questions.{roomFor, numberBy, number}
 use Rattle.rules.specs.Proofs.Regular.{regular-run}
 use Rattle.rules.specs.Proofs.Fresh.{fresh-setup}
@@ -111,18 +110,31 @@ later-not-ten : (a b c : Bool) → eqb (ask a 11 (ask b 12 (ask c 13 0))) 10 ≡
 later-not-ten a b c =
     ne-eqb _ 10 (ask-other a 11 _ 10 (omega arith) (ask-other b 12 _ 10 (omega arith) (ask-other c 13 0 10 (omega arith) (omega arith))))
 
-ten-room : (k : Action) (v : View) (c : Call) → PassedTo9 k v c → eqb (numberBy k v c) 10 ≡ not (roomFor k v c)
-unfolding numberBy ask
-ten-room k v c q =
-    rw (q .one, q .two, q .three, q .four, q .five, q .eight, q .six, q .seven, q .nine)
-    (by-test (roomFor k v c)
-    (λ h. rw h (later-not-ten (asked (isSetLevel k) (leb (c .extra) 15)) (not (isNotGranted (answers k v c .combined)))
-    (not (isUndefined (answers k v c .combined)))))
-    (λ h. rw h))
+-- its own question
+ten-asked : (k : Action) (v : View) (c : Call) (later : ℕ) → eqb later 10 ≡ false
+    → eqb (ask (roomFor k v c) 10 later) 10 ≡ (isCreate k and not (ltb (v .entered) mostObjects))
+unfolding roomFor ask _and_
+ten-asked k v c later h =
+    by-test (isCreate k) (λ e. rw e (by-test (ltb (v .entered) mostObjects) (λ r. rw r h) (λ r. rw r refl))) (λ e. rw e h)
 
-room-full : (k : Action) (v : View) (c : Call) → roomFor k v c ≡ asked (isCreate k) (ltb (v .entered) mostObjects)
-unfolding roomFor
-room-full k v c = refl
+-- a question with another number than m, before p and q: m comes where it is answered with yes, and they say so
+ask-last : (b q : Bool) (n later m : ℕ) → n ≢ m → eqb later m ≡ q → eqb (ask b n later) m ≡ (b and q)
+unfolding ask _and_
+ask-last true q n later m h e = e
+ask-last false q n later m h e = ne-eqb n m h
+
+ask-before : (b p q : Bool) (n later m : ℕ) → n ≢ m → eqb later m ≡ (p and q) → eqb (ask b n later) m ≡ ((b and p) and q)
+unfolding ask _and_
+ask-before true p q n later m h e = e
+ask-before false p q n later m h e = ne-eqb n m h
+
+ten-exactly : (k : Action) (v : View) (c : Call) → eqb (numberBy k v c) 10 ≡ (passesTo9 k v c and isCreate k and not (ltb (v .entered) mostObjects))
+unfolding numberBy
+ten-exactly k v c =
+    ask-before _ _ _ 1 _ 10 (omega arith) (ask-before _ _ _ 2 _ 10 (omega arith) (ask-before _ _ _ 3 _ 10 (omega arith)
+    (ask-before _ _ _ 4 _ 10 (omega arith) (ask-before _ _ _ 5 _ 10 (omega arith) (ask-before _ _ _ 8 _ 10 (omega arith)
+    (ask-before _ _ _ 6 _ 10 (omega arith) (ask-before _ _ _ 7 _ 10 (omega arith) (ask-last _ _ 9 _ 10 (omega arith)
+    (ten-asked k v c _ (later-not-ten _ _ _))))))))))
 
 pub object-numbers : ObjectNumbers
 object-numbers =
@@ -130,6 +142,5 @@ object-numbers =
       most = λ s cs. regular-run cs (fresh s) (fresh-setup s .regular) .sound .entered;
       rising = λ s cs. run-rising cs (fresh s);
       entering = λ s cs. run-entered cs (fresh s);
-      ten = ten-room;
-      full = room-full;
+      ten = ten-exactly;
     }

@@ -1,18 +1,21 @@
 -- Demand 3, first half: proved.
 use Prim.Native.Nat.{ℕ, _<_}
-use mathlib.Core.Path.{_≡_, refl, subst}
+use mathlib.Core.Path.{_≡_, refl, sym, _∙_, ap, subst}
+use mathlib.Core.Logic.{_≢_}
 use mathlib.Core.Bool.{true, false}
 use mathlib.Core.List.{List, [], _∷_}
 use lib.Dec.{ltb}
 use borrow.Author.Tests.{ltb-true, eqb-true}
-use Rattle.rules.specs.Types.{Call, Facility}
+use Rattle.rules.specs.Types.{Switches, Call, Facility}
 use Rattle.labels.specs.Decisions.{at, on}
 use Rattle.labels.specs.Laws.Decisions.{or-none, clash, by-test}
-use Rattle.rules.specs.Flow.{OnlyWhen}
+use Rattle.state.specs.State.{labelOf}
+use Rattle.rules.specs.Flow.{Above, OnlyWhen}
 use Rattle.rules.specs.Calls.{after}
 use Rattle.rules.specs.Histories.{run, trustedLogin, trustedLogins, history}
 use Rattle.rules.specs.Setup.{fresh}
-use Rattle.rules.specs.Matter.{Account, start, account}
+use Rattle.rules.specs.Matter.{Account, start, account, holds}
+use Rattle.rules.specs.Proofs.Leaves.{run-switches}
 use Rattle.rules.specs.Proofs.Fresh.{Fresh, fresh-setup}
 use Rattle.rules.specs.Proofs.Invariant.{Inv}
 use Rattle.rules.specs.Proofs.Opens.{not-reading, not-writing}
@@ -52,3 +55,9 @@ inv-run (c ∷ cs) f a I h =
 pub only-when : OnlyWhen
 only-when s m cs h a b held n =
     inv-run cs (fresh s) (start (fresh s)) (inv-start (fresh s) (fresh-setup s) m) h .holds b a held .above n
+
+-- MAC's switch, asked after the list
+pub only-when-after : (s : List ℕ) (cs : List Call) → on (run (fresh s) cs .mac) ≡ true → trustedLogins (fresh s) cs ≡ false
+    → (a b : ℕ) → holds s cs b a ≡ true → b ≢ a → Above (labelOf (run (fresh s) cs) b) (labelOf (run (fresh s) cs) a)
+only-when-after s cs m h a b held n =
+    only-when s (ap (λ (x : Switches). on (x .mac)) (sym (run-switches cs (fresh s))) ∙ m) cs h a b held n

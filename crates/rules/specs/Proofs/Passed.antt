@@ -1,7 +1,7 @@
 -- An accepted call is one of which each question of the list is answered with yes; of a denied one those before 12 are. Only this module goes through
 -- the list.
 use Prim.Native.Nat.{ℕ, _<_}
-use mathlib.Core.Path.{_≡_, refl}
+use mathlib.Core.Path.{_≡_, refl, subst}
 use mathlib.Core.Bool.{Bool, true, false, not}
 use lib.Dec.{leb, ltb}
 use borrow.Author.Tests.{ltb-true, eqb-true, not-true, lt-ltb}
@@ -14,7 +14,7 @@ use Rattle.answers.specs.Answers.{isNotGranted, isUndefined, passes}
 use Rattle.answers.specs.Laws.Answers.{neither-passes, passes-not-granted, passes-undefined, passes-first}
 use Rattle.rules.specs.Calls.{accepted}
 use Rattle.rules.specs.Requests.{Action, lastRequest, actionOf, isAbsent, isNoCondition, isLogin, isClone, isSendSignal, isSetLevel}
-use Rattle.rules.specs.Requests.{isCreate, needsObject}
+use Rattle.rules.specs.Requests.{Login, Clone, SendSignal, SetLevel, Terminate, Create, OnObject, Unknown, isCreate, needsObject}
 use Rattle.rules.specs.Modules.{View, viewOf, classIn, macRule, macAnswer, answers}
 use Rattle.rules.specs.Questions.{runsOf, inRange, isRunning, isFree, openFor, roomFor, numberBy, number}
 
@@ -105,6 +105,23 @@ mac-passed k v c q m =
 pub accepted-zero : (f : Facility) (c : Call) → accepted f c ≡ true → number f c ≡ 0
 unfolding accepted
 accepted-zero f c h = eqb-true _ _ h
+
+-- an accepted create
+is-create : (k : Action) → isCreate k ≡ true → k ≡ Create
+is-create Login h = clash h refl
+is-create Clone h = clash h refl
+is-create SendSignal h = clash h refl
+is-create SetLevel h = clash h refl
+is-create Terminate h = clash h refl
+is-create Create h = refl
+is-create OnObject h = clash h refl
+is-create Unknown h = clash h refl
+
+pub create-passed : (f : Facility) (c : Call) → accepted f c ≡ true → isCreate (actionOf (c .request)) ≡ true
+    → (actionOf (c .request) ≡ Create) × Passed Create (viewOf f c) c
+create-passed f c a k =
+    let e = is-create _ k in
+    (e, subst (λ (z : Action). Passed z (viewOf f c) c) e (passed _ (viewOf f c) c (accepted-zero f c a)))
 
 -- of a question whose number is no denial: where the whole is denied, it was answered with yes, and the later ones are denied
 ask-denied : (b : Bool) (n r : ℕ) → denies n ≡ false → denies (ask b n r) ≡ true → b ≡ true

@@ -19,6 +19,7 @@ use Rattle.rules.specs.Calls.{afterRefusal}
 use Rattle.rules.specs.Requests.{Action, Login, Clone, SendSignal, SetLevel, Terminate, Create, OnObject, Unknown, OpenChange, Keep, Add, Close}
 use Rattle.rules.specs.Requests.{CloseAll, isLogin, isClone, inDirectory, needsObject, openChange}
 use Rattle.rules.specs.Modules.{View, viewOf, moved, levelled, signalled}
+use Rattle.rules.specs.Proofs.Leaves.{effect-leaves}
 use Rattle.rules.specs.Proofs.Passed.{Passed}
 
 -- what holds of each process, by its number
@@ -49,28 +50,10 @@ add-process f o q = by-test (ltb (f .entered) mostObjects) (λ e. rw e) (λ e. r
 abbrev pub untouched : Facility → ℕ × Users × List ℕ
 untouched f = (f .mac, usersIn f, f .refusals)
 
-open-untouched : (o : OpenChange) (f : Facility) (p t : ℕ) → untouched (openBy o f p t) ≡ untouched f
-unfolding openBy putOpens dropObject
-open-untouched Keep f p t = refl
-open-untouched (Add m) f p t = refl
-open-untouched Close f p t = refl
-open-untouched CloseAll f p t = refl
-
-add-untouched : (f : Facility) (o : Object) → untouched (addObject f o) ≡ untouched f
-unfolding addObject putObject
-add-untouched f o = by-test (ltb (f .entered) mostObjects) (λ e. rw e) (λ e. rw e)
-
 pub effect-untouched : (k : Action) (f : Facility) (c : Call) → untouched (effectBy k f c) ≡ untouched f
-unfolding effectFrom putProcess putOpens
-effect-untouched Login f c = refl
-effect-untouched Clone f c = refl
-effect-untouched SendSignal f c = refl
-effect-untouched SetLevel f c = refl
-effect-untouched Terminate f c = refl
-effect-untouched Create f c =
-    by-test (inDirectory (c .extra)) (λ e. rw e (add-untouched (putProcess f (c .process) _) _)) (λ e. rw e (add-untouched f _))
-effect-untouched OnObject f c = open-untouched (openChange (c .request)) (putProcess f (c .process) _) (c .process) (c .target)
-effect-untouched Unknown f c = refl
+unfolding putProcess putOpens putObject dropObject
+effect-untouched k f c =
+    effect-leaves untouched (record { process = λ g p r. refl; opens = λ g l. refl; object = λ g o. refl; dropped = λ g t. refl }) k f c
 
 -- whether an accepted call of an action puts a process, which one, and what that becomes
 abbrev pub puts : Action → Call → Bool

@@ -1,7 +1,7 @@
 -- Demand 1: proved.
 use Rattle.answers.specs.declared.Outcome.the-variants.{Refused}
 use Prim.Native.Nat.{ℕ, _≤_}
-use mathlib.Core.Path.{_≡_, refl}
+use mathlib.Core.Path.{_≡_}
 use mathlib.Core.Logic.{_≢_}
 use mathlib.Core.Bool.{Bool, true, false}
 use lib.Dec.{eqb}
@@ -84,5 +84,4 @@ refusals =
       counts = counts';
       largest = λ f c. largest-number (actionOf (c .request)) (viewOf f c) c;
       numbered = query-number;
-      foretold = λ f c. refl;
     }

@@ -1,22 +1,24 @@
 -- Set-ups read and written out, and written out and read back: proved.
 use Rattle.answers.specs.declared.SetupOutcome.the-variants.{Accepted}
 use Prim.Native.Nat.{ℕ, zero, suc, _*_, _/_, _%_, _≤_, _<_}
-use mathlib.Core.Path.{_≡_, refl, sym, _∙_, ap}
+use mathlib.Core.Path.{_≡_, refl, sym, _∙_, ap, subst, subst⁻¹}
 use mathlib.Core.Logic.{_≢_}
 use mathlib.Core.Bool.{true}
 use mathlib.Core.List.{List, [], _∷_, map}
-use lib.ListN.{length}
+use lib.ListN.{length, take, drop}
+use lib.Seq.{take-append-seam, drop-at}
 use native.Mathlib.Omega.{arith}
-use borrow.Author.Tests.{ltb-true, eqb-true, lt-ltb, le-leb, eq-eqb}
+use borrow.Author.Tests.{ltb-true, eqb-true, lt-ltb, le-leb, lt-leb, eq-eqb}
 use Rattle.rules.specs.Types.{User, Object, Facility}
 use Rattle.labels.specs.Laws.Decisions.{and-l, and-r, and-i, clash, by-test}
 use Rattle.state.specs.State.{objectsIn, objectIn, objectOf, live, switchesOf, allOff, blank}
 use Rattle.rules.specs.Histories.{run}
 use Rattle.rules.specs.Kinds.{kindOf}
 use Rattle.rules.specs.Setup.{recordsOf, bytesOfAll, allowedLength, sized, switchesEntered, userEntered, objectEntered, recordsIn, readSetup, fresh}
-use Rattle.rules.specs.Setup.{isAccepted, switchesRecord, userRecord, objectRecord, usersOf, liveObjects, withParent, writtenObject, writtenObjects}
-use Rattle.rules.specs.Setup.{sections, together, setupRecords, setupBytes}
-use Rattle.rules.specs.Promises.{SameSetup, ReadBack, RoundTrips}
+use Rattle.rules.specs.Setup.{acceptedSetup, isAccepted, switchesRecord, userRecord, objectRecord, usersOf}
+use Rattle.rules.specs.Setup.{liveObjects, withParent, writtenObject, writtenObjects}
+use Rattle.rules.specs.Setup.{sections, together, setupRecords, setupBytes, writeSetup}
+use Rattle.rules.specs.Promises.{SameSetup, ReadBack, RoundTrips, Lent, Untouched, LentRoundTrips}
 use Rattle.rules.specs.Proofs.Regular.{Regular, regular-run}
 use Rattle.rules.specs.Proofs.Bytes.{bytes-of-records, records-of-bytes, bytes-length}
 use Rattle.rules.specs.Proofs.Past.{All}
@@ -36,21 +38,27 @@ sized-length s e =
     let p : 0 < length s = ltb-true _ _ (and-l _ _ (and-r _ _ e)) in
     (omega arith, omega arith)
 
-from-records : (n : ℕ) (s : List ℕ) → n ≢ 0 → length s ≡ n * 8 → AllAccepted [] (recordsOf n s)
-    → bytesOfAll (setupRecords (enterEach (blank allOff) (recordsOf n s))) ≡ s
+from-records : (n : ℕ) (s : List ℕ) → n ≢ 0 → AllAccepted [] (recordsOf n s) → setupRecords (enterEach (blank allOff) (recordsOf n s)) ≡ recordsOf n s
 unfolding recordsOf
-from-records zero s z l J = absurd (z refl)
-from-records (suc n) s z l J = ap bytesOfAll (accepted-written _ _ J) ∙ bytes-of-records (suc n) s l
+from-records zero s z J = absurd (z refl)
+from-records (suc n) s z J = accepted-written _ _ J
 
-read-written : (s : List ℕ) → isAccepted ((readSetup s) .outcome) ≡ true → setupBytes ((readSetup s) .facility) ≡ s
-unfolding readSetup setupBytes
-read-written s h =
+-- an accepted set-up has an allowed length, and its records are those that are written out
+pub as-written : (s : List ℕ) → isAccepted ((readSetup s) .outcome) ≡ true
+    → (sized s ≡ true) × (setupRecords ((readSetup s) .facility) ≡ recordsIn s)
+unfolding readSetup
+as-written s h =
     by-test (sized s)
     (λ e.
-    let (l, z) = sized-length s e in
     let J = read-accepted [] (recordsIn s) (blank allOff) (rw e at h) in
-    rw (e, accepted-read [] (recordsIn s) (blank allOff) J) (from-records (length s / 8) s z l J))
+    rw (e, accepted-read [] (recordsIn s) (blank allOff) J) (refl, from-records (length s / 8) s (sized-length s e .1) J))
     (λ e. clash (rw e at h) refl)
+
+read-written : (s : List ℕ) → acceptedSetup s ≡ true → setupBytes (fresh s) ≡ s
+unfolding setupBytes
+read-written s h =
+    let (e, w) = as-written s h in
+    ap bytesOfAll w ∙ bytes-of-records (length s / 8) s (sized-length s e .0)
 
 -- Writing: the bytes have an allowed length, and are read as the records that they were made of.
 bytes-sized : (f : Facility) → Regular f → sized (setupBytes f) ≡ true
@@ -77,11 +85,11 @@ unfolding setupRecords
 records-same f R = accepted-written (switchesRecord (switchesOf f)) _ (all-accepted f R)
 
 -- what the records of users and objects tell of them
-users-told : (us : List User) → map userEntered (map userRecord us) ≡ us
+pub users-told : (us : List User) → map userEntered (map userRecord us) ≡ us
 users-told [] = refl
 users-told (u ∷ us) = ap (λ (l : List User). u ∷ l) (users-told us)
 
-objects-told : (os : List Object) → All ObjectFit os → map objectEntered (map objectRecord os) ≡ os
+pub objects-told : (os : List Object) → All ObjectFit os → map objectEntered (map objectRecord os) ≡ os
 objects-told [] a = refl
 objects-told (o ∷ os) a =
     let e = a .0 .1 in
@@ -96,7 +104,7 @@ objects-told (o ∷ os) a =
     } ∷ objects-told os (a .1) i
 
 -- of a fresh facility the objects are written as they are: all live
-fresh-written : (g : Facility) → Fresh g → writtenObjects g ≡ liveObjects g
+pub fresh-written : (g : Facility) → Fresh g → writtenObjects g ≡ liveObjects g
 unfolding objectIn
 fresh-written g G =
     listed-same (g .entered) (live g) (live g) (objectOf g) (writtenObject (objectsIn g)) (λ t b. refl)
@@ -131,4 +139,34 @@ round-trips =
       written = read-written;
       read = λ s cs. regular-back (run (fresh s) cs) (regular-run cs (fresh s) (fresh-setup s .regular));
       nineteen = nineteen;
+    }
+
+-- in a lent buffer
+room : (f : Facility) (l : List ℕ) → length (setupBytes f) ≤ length l → Lent (writeSetup f l) (setupBytes f) l
+unfolding writeSetup
+room f l h =
+    rw (le-leb (length (setupBytes f)) (length l) h) (record {
+      number = refl;
+      long = refl;
+      front = take-append-seam (setupBytes f) (drop (length (setupBytes f)) l);
+      behind = drop-at (setupBytes f) (drop (length (setupBytes f)) l) (length (setupBytes f)) refl;
+    })
+
+short : (f : Facility) (l : List ℕ) → length l < length (setupBytes f) → Untouched (writeSetup f l) l
+unfolding writeSetup
+short f l h = rw (lt-leb (length (setupBytes f)) (length l) h) (record { number = refl; long = refl; buffer = refl })
+
+pub lent-round-trips : LentRoundTrips
+lent-round-trips =
+    record {
+      room = room;
+      short = short;
+      written = λ s l a h.
+          let e = read-written s a in
+          subst (λ (w : List ℕ). Lent (writeSetup (fresh s) l) w l) e (room (fresh s) l (subst⁻¹ (λ (w : List ℕ). length w ≤ length l) e h));
+      read = λ s cs l h.
+          let f = run (fresh s) cs in
+          let L = room f l h in
+          subst⁻¹ (λ (w : List ℕ). SameSetup f (fresh w)) (ap (λ (n : ℕ). take n ((writeSetup f l) .buffer)) (L .long) ∙ L .front)
+          (round-trips .read s cs .same);
     }

@@ -1,0 +1,3 @@
+-- Facts of all reads, and of a turn.
+pub mod AllReads
+pub mod Turns

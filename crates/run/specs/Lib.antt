@@ -1,0 +1,3 @@
+-- What a run reads and writes, over all its reads.
+pub mod AllReads
+pub mod Examples

@@ -1,0 +1,2 @@
+-- What a turn of the program does.
+pub mod Turns
