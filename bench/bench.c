@@ -1,5 +1,5 @@
-/* Compares the proved facility with the same rules in plain C: first that they agree on random calls, then how long each takes. All in one
- * run. Each line of the output has fields between tabs; bench/measure.py makes tables of them. */
+/* Compares the proved facility with the same rules in plain C, compiled in two ways: first that all agree on random calls, then how long each takes.
+ * All in one run. Each line of the output has fields between tabs; bench/measure.py makes tables of them. */
 #define _POSIX_C_SOURCE 200809L
 #include <stdio.h>
 #include <stdlib.h>
@@ -21,6 +21,11 @@ static uint32_t random_below(uint32_t n)
 static uint8_t byte_below(uint32_t n)
 {
     return (uint8_t)random_below(n);
+}
+
+static hv_call call_of(const uint8_t c[4])
+{
+    return (hv_call){c[0], c[1], c[2], c[3], 0};
 }
 
 /* A number below n, sometimes unset. */
@@ -247,13 +252,18 @@ static int agree(void)
         uint8_t c[4];
         next_call(&plain, &proved, c);
         hv_facility before = plain;
-        hv_outcome q = hv_query(proved, c[0], c[1], c[2], c[3]);
-        hv_enforced e = hv_enforce(proved, c[0], c[1], c[2], c[3]);
+        hv_outcome q = hv_query(proved, call_of(c));
+        hv_enforced e = hv_enforce(proved, call_of(c));
         hv_facility place = proved;
-        hv_outcome qa = hv_query_at(&place, c[0], c[1], c[2], c[3]);
-        hv_outcome ea = hv_enforce_at(&place, c[0], c[1], c[2], c[3]);
+        hv_outcome qa = hv_query_at(&place, call_of(c));
+        hv_outcome ea = hv_enforce_at(&place, call_of(c));
         hv_outcome o = plain_enforce(&plain, c[0], c[1], c[2], c[3]);
+        hv_facility inlined = before;
+        hv_outcome qi = inlined_query(&inlined, c[0], c[1], c[2], c[3]);
+        hv_outcome ei = inlined_enforce(&inlined, c[0], c[1], c[2], c[3]);
         proved = e.facility;
+        if (memcmp(&o, &qi, sizeof o) != 0 || memcmp(&o, &ei, sizeof o) != 0 || !same(&plain, &inlined))
+            return printf("call %d %d %d %d inlined differs: %d, %d and %d\n", c[0], c[1], c[2], c[3], o.number, qi.number, ei.number), 0;
         if (memcmp(&o, &qa, sizeof o) != 0 || memcmp(&o, &ea, sizeof o) != 0 || !same(&plain, &place))
             return printf("call %d %d %d %d in place differs: %d, %d and %d\n", c[0], c[1], c[2], c[3], o.number, qa.number, ea.number), 0;
         count_seen(&before, &plain, c, o);
@@ -298,14 +308,14 @@ static volatile uint32_t sink;
 static void proved_query(const list *l)
 {
     uint32_t sum = 0;
-    for (int k = 0; k < l->n; k++) sum += hv_query(l->start, l->calls[k][0], l->calls[k][1], l->calls[k][2], l->calls[k][3]).number;
+    for (int k = 0; k < l->n; k++) sum += hv_query(l->start, call_of(l->calls[k])).number;
     sink = sum;
 }
 
 static void proved_query_at(const list *l)
 {
     uint32_t sum = 0;
-    for (int k = 0; k < l->n; k++) sum += hv_query_at(&l->start, l->calls[k][0], l->calls[k][1], l->calls[k][2], l->calls[k][3]).number;
+    for (int k = 0; k < l->n; k++) sum += hv_query_at(&l->start, call_of(l->calls[k])).number;
     sink = sum;
 }
 
@@ -313,7 +323,7 @@ static void proved_enforce_at(const list *l)
 {
     hv_facility f = l->start;
     uint32_t sum = 0;
-    for (int k = 0; k < l->n; k++) sum += hv_enforce_at(&f, l->calls[k][0], l->calls[k][1], l->calls[k][2], l->calls[k][3]).number;
+    for (int k = 0; k < l->n; k++) sum += hv_enforce_at(&f, call_of(l->calls[k])).number;
     sink = f.refusals[0] + sum;
 }
 
@@ -321,6 +331,13 @@ static void in_place_query(const list *l)
 {
     uint32_t sum = 0;
     for (int k = 0; k < l->n; k++) sum += plain_query(&l->start, l->calls[k][0], l->calls[k][1], l->calls[k][2], l->calls[k][3]).number;
+    sink = sum;
+}
+
+static void inlined_in_place_query(const list *l)
+{
+    uint32_t sum = 0;
+    for (int k = 0; k < l->n; k++) sum += inlined_query(&l->start, l->calls[k][0], l->calls[k][1], l->calls[k][2], l->calls[k][3]).number;
     sink = sum;
 }
 
@@ -334,7 +351,7 @@ static void by_value_query(const list *l)
 static void proved_enforce(const list *l)
 {
     hv_enforced e = {.facility = l->start};
-    for (int k = 0; k < l->n; k++) e = hv_enforce(e.facility, l->calls[k][0], l->calls[k][1], l->calls[k][2], l->calls[k][3]);
+    for (int k = 0; k < l->n; k++) e = hv_enforce(e.facility, call_of(l->calls[k]));
     sink = e.facility.refusals[0];
 }
 
@@ -343,6 +360,14 @@ static void in_place_enforce(const list *l)
     hv_facility f = l->start;
     uint32_t sum = 0;
     for (int k = 0; k < l->n; k++) sum += plain_enforce(&f, l->calls[k][0], l->calls[k][1], l->calls[k][2], l->calls[k][3]).number;
+    sink = f.refusals[0] + sum;
+}
+
+static void inlined_in_place_enforce(const list *l)
+{
+    hv_facility f = l->start;
+    uint32_t sum = 0;
+    for (int k = 0; k < l->n; k++) sum += inlined_enforce(&f, l->calls[k][0], l->calls[k][1], l->calls[k][2], l->calls[k][3]).number;
     sink = f.refusals[0] + sum;
 }
 
@@ -379,16 +404,28 @@ static void in_place_block(const list *l)
     sink = (uint32_t)at;
 }
 
+static void inlined_in_place_block(const list *l)
+{
+    static char out[CALLS * HV_LINE_MOST + HV_SHORT_MOST];
+    hv_facility f = l->start;
+    size_t at = 0;
+    for (int k = 0; k < l->n; k++) {
+        hv_outcome o = inlined_enforce(&f, l->calls[k][0], l->calls[k][1], l->calls[k][2], l->calls[k][3]);
+        at += plain_line(out + at, (uint64_t)k + 1, l->calls[k], &f, o);
+    }
+    sink = (uint32_t)at;
+}
+
 static int by_size(const void *a, const void *b)
 {
     double x = *(const double *)a, y = *(const double *)b;
     return (x > y) - (x < y);
 }
 
-enum { WORKS = 4 };
+enum { WORKS = 5 };
 typedef void work(const list *);
 
-/* Where it is, proved and plain; by value, proved and plain; NULL where there is nothing to measure. In each round each takes its turn, so
+/* Where it is, proved, plain and inlined; by value, proved and plain; NULL where there is nothing to measure. In each round each takes its turn, so
  * that a slow moment of the machine falls on all of them. Of each: nanoseconds for a call, the best and the median of the rounds. */
 static void row(const char *table, const char *name, const list *l, work *const works[WORKS])
 {
@@ -480,8 +517,8 @@ static int chains(list *l)
         {HV_EXECUTE, "execute", 0},
         {HV_READ_OPEN, "read-open, which no flag forbids", 0},
     };
-    work *const asked[WORKS] = {proved_query_at, in_place_query, NULL, NULL};
-    work *const done[WORKS] = {proved_enforce_at, in_place_enforce, NULL, NULL};
+    work *const asked[WORKS] = {proved_query_at, in_place_query, inlined_in_place_query, NULL, NULL};
+    work *const done[WORKS] = {proved_enforce_at, in_place_enforce, inlined_in_place_enforce, NULL, NULL};
     for (size_t k = 0; k < sizeof each / sizeof each[0]; k++)
         for (int deep = 0; deep < 2; deep++) {
             uint8_t s[HV_SETUP_MOST];
@@ -513,11 +550,11 @@ int main(void)
         random_call_by_level(c);
         plain_enforce(&f, c[0], c[1], c[2], c[3]);
     }
-    work *const queries[WORKS] = {proved_query_at, in_place_query, proved_query, by_value_query};
-    work *const enforces[WORKS] = {proved_enforce_at, in_place_enforce, proved_enforce, by_value_enforce};
-    work *const blocks[WORKS] = {proved_block_at, in_place_block, proved_block, NULL};
-    work *const setups[WORKS] = {NULL, in_place_setup, proved_setup, NULL};
-    work *const writes[WORKS] = {proved_write_at, in_place_write, proved_write, NULL};
+    work *const queries[WORKS] = {proved_query_at, in_place_query, inlined_in_place_query, proved_query, by_value_query};
+    work *const enforces[WORKS] = {proved_enforce_at, in_place_enforce, inlined_in_place_enforce, proved_enforce, by_value_enforce};
+    work *const blocks[WORKS] = {proved_block_at, in_place_block, inlined_in_place_block, proved_block, NULL};
+    work *const setups[WORKS] = {NULL, in_place_setup, NULL, proved_setup, NULL};
+    work *const writes[WORKS] = {proved_write_at, in_place_write, NULL, proved_write, NULL};
     make(&l, &f, ANY);
     row("call", "query", &l, queries);
     row("call", "enforce, any", &l, enforces);

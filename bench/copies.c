@@ -61,7 +61,7 @@ int main(void)
     hv_write_setup(f, out, sizeof out);
     printf("copies\twriting a set-up out\t%d\n", copies);
     copies = 0;
-    hv_query(f, HV_LOGIN, 0, 0, 0);
+    hv_query(f, (hv_call){HV_LOGIN, 0, 0, 0, 0});
     printf("copies\tquery\t%d\n", copies);
     copies = 0;
     hv_effective_flags(f, 1);
@@ -75,7 +75,7 @@ int main(void)
     for (size_t k = 0; k < sizeof calls / sizeof calls[0]; k++) {
         const uint8_t *c = calls[k].call;
         copies = 0;
-        hv_enforced e = hv_enforce(f, c[0], c[1], c[2], c[3]);
+        hv_enforced e = hv_enforce(f, (hv_call){c[0], c[1], c[2], c[3], 0});
         printf("copies\t%s\t%d\n", calls[k].name, copies);
         if (e.outcome.number != calls[k].number) return printf("%s: number %d\n", calls[k].name, e.outcome.number), 1;
         f = e.facility;

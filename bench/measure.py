@@ -9,7 +9,7 @@ import programs
 
 ROOT = programs.ROOT
 PAGE = os.path.join(ROOT, "docs", "PERFORMANCE.md")
-ASKED_IN_PLACE, ASKED_OF_PROGRAM = 2.0, 2.5
+ASKED_IN_PLACE, ASKED_TO_INLINED, ASKED_OF_PROGRAM = 2.0, 3.0, 2.5
 CHAIN = 127                   # directories above the file; DEPTH in bench.c
 
 
@@ -57,25 +57,38 @@ def spread(*pairs):
 
 
 def timed(fields):
-    """Of a line of bench: name, and best and median of where it is (proved, plain) and by value (proved, plain)."""
+    """Of a line of bench: name, and best and median of where it is (proved, plain, inlined) and by value (proved, plain)."""
     figures = [number(x) for x in fields[2:]]
     return fields[1], [tuple(figures[k:k + 2]) for k in range(0, len(figures), 2)]
 
 
 def call_rows(rows):
-    for name, (at, plain, value, plain_value) in rows:
+    for name, (at, plain, inlined, value, plain_value) in rows:
         rate = None if at[0] is None else "%.1f" % (1e3 / at[0])
-        yield [name, tenths(at[0]), tenths(plain[0]), ratio(at[0], plain[0]), rate, spread(at, plain),
-               tenths(value[0]), tenths(plain_value[0]), ratio(value[0], plain_value[0]), spread(value, plain_value)]
+        yield [name, tenths(at[0]), tenths(plain[0]), ratio(at[0], plain[0]), tenths(inlined[0]), ratio(at[0], inlined[0]), rate,
+               spread(at, plain, inlined), tenths(value[0]), tenths(plain_value[0]), ratio(value[0], plain_value[0]), spread(value, plain_value)]
+
+
+def for_each(above, below):
+    """Nanoseconds for each directory; 0.00 and not -0.00 where both take the same."""
+    return "%.2f" % (round((below - above) / CHAIN, 2) + 0.0)
 
 
 def chain_rows(flat, deep):
-    """The same call on a file without a parent and below 127 directories; nanoseconds for each directory, proved and plain."""
-    for (name, (at, plain, _, _)), (other, (deep_at, deep_plain, _, _)) in zip(flat, deep):
+    """The same call on a file without a parent and below 127 directories; nanoseconds for each directory, proved, plain and inlined."""
+    for (name, above), (other, below) in zip(flat, deep):
         if name != other:
             sys.exit("bench: %s beside %s" % (name, other))
-        yield [name, tenths(at[0]), tenths(plain[0]), ratio(at[0], plain[0]), tenths(deep_at[0]), tenths(deep_plain[0]), ratio(deep_at[0], deep_plain[0]),
-               "%.2f" % ((deep_at[0] - at[0]) / CHAIN), "%.2f" % ((deep_plain[0] - plain[0]) / CHAIN), spread(at, plain, deep_at, deep_plain)]
+        for directories, (at, plain, inlined, _, _) in ((0, above), (CHAIN, below)):
+            each = [for_each(here[0], there[0]) for here, there in zip(above[:3], below[:3])] if directories else [None] * 3
+            yield [name, directories, tenths(at[0]), tenths(plain[0]), ratio(at[0], plain[0]), tenths(inlined[0]), ratio(at[0], inlined[0]), *each,
+                   spread(at, plain, inlined)]
+
+
+def whole_rows(rows):
+    for name, (at, plain, inlined, value, _) in rows:
+        yield [name, tenths(at[0]), tenths(plain[0]), ratio(at[0], plain[0]), tenths(inlined[0]), ratio(at[0], inlined[0]),
+               tenths(value[0]), ratio(value[0], plain[0]), spread(at, plain, inlined, value)]
 
 
 def against(asked, taken, plain):
@@ -83,15 +96,18 @@ def against(asked, taken, plain):
 
 
 def target_rows(rows, times):
-    for name, (at, plain, value, plain_value) in rows:
-        yield [name, ASKED_IN_PLACE, against(ASKED_IN_PLACE, at[0], plain[0]), ratio(value[0], plain[0]), ratio(plain_value[0], plain[0])]
-    yield ["run program", ASKED_OF_PROGRAM, against(ASKED_OF_PROGRAM, times["proved"][0], times["plain"][0]), None, None]
+    for name, (at, plain, inlined, value, plain_value) in rows:
+        yield [name, ASKED_IN_PLACE, against(ASKED_IN_PLACE, at[0], plain[0]), ASKED_TO_INLINED, against(ASKED_TO_INLINED, at[0], inlined[0]),
+               ratio(value[0], plain[0]), ratio(plain_value[0], plain[0])]
+    proved, plain, inlined = (times[name][0] for name in ("proved", "plain", "inlined"))
+    yield ["run program", ASKED_OF_PROGRAM, against(ASKED_OF_PROGRAM, proved, plain), None, "%.2f" % (proved / inlined), None, None]
 
 
 def run_rows(times):
-    for name, key in (("proved", "proved"), ("plain C", "plain"), ("model", "model")):
+    for name, key in (("proved", "proved"), ("plain C", "plain"), ("plain C, inlined", "inlined"), ("model", "model")):
         best, median = times[key]
-        yield [name, "%.3f" % best, "%.0f" % (programs.CALLS / best), ratio(best, times["plain"][0]), spread((best, median))]
+        yield [name, "%.3f" % best, "%.0f" % (programs.CALLS / best), ratio(best, times["plain"][0]), ratio(best, times["inlined"][0]),
+               spread((best, median))]
 
 
 def machine(pinned, load):
@@ -118,17 +134,16 @@ def sections():
     times, accepted = programs.measured()
     return {
         "agreement": "Measured on: %s.\nAgreement before it: %s random calls, %s accepted, none differs." % (machine(pinned, load), trials, taken),
-        "calls": table(["ns for each call", "where it is: proved", "plain C", "ratio", "million/s", "spread", "by value: proved", "plain C",
-                        "ratio", "spread"], call_rows(calls)),
-        "chains": table(["ns for each call, where it is", "no parent: proved", "plain C", "ratio", "below 127: proved", "plain C", "ratio",
-                         "for each directory: proved", "plain C", "spread"], chain_rows(flat, deep)),
-        "wholes": table(["ns", "where it is: proved", "by value: proved", "plain C", "ratio where it is", "ratio by value", "spread"],
-                        [[name, tenths(f[0][0]), tenths(f[2][0]), tenths(f[1][0]), ratio(f[0][0], f[1][0]), ratio(f[2][0], f[1][0]), spread(*f[:3])]
-                         for name, f in wholes]),
-        "programs": table(["program", "seconds", "calls/s", "to plain C", "spread"], run_rows(times))
+        "calls": table(["ns for each call", "where it is: proved", "plain C", "ratio", "inlined", "ratio", "million/s", "spread", "by value: proved",
+                        "plain C", "ratio", "spread"], call_rows(calls)),
+        "chains": table(["ns for each call, where it is", "directories", "proved", "plain C", "ratio", "inlined", "ratio",
+                         "for each directory: proved", "plain C", "inlined", "spread"], chain_rows(flat, deep)),
+        "wholes": table(["ns", "where it is: proved", "plain C", "ratio", "inlined", "ratio", "by value: proved", "ratio to plain C", "spread"],
+                        whole_rows(wholes)),
+        "programs": table(["program", "seconds", "calls/s", "to plain C", "to inlined", "spread"], run_rows(times))
                     + "\n\n%d calls, %d accepted; the model's seconds are ten times those of a tenth of the calls." % (programs.CALLS, accepted),
         "copies": table(["call", "copies"], copies),
-        "targets": table(["", "asked for", "where it is", "by value", "plain C by value"], target_rows(calls, times)),
+        "targets": table(["", "asked for", "to plain C", "asked for", "to inlined", "by value", "plain C by value"], target_rows(calls, times)),
     }
 
 

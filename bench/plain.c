@@ -164,7 +164,11 @@ static inline uint8_t forbidding(uint8_t kind, uint8_t class, uint8_t request)
 
 static inline uint8_t combined(uint8_t a, uint8_t b, uint8_t c, uint8_t d) { return most(most(a, b), most(c, d)); }
 
-/* Number and answers, and the move that MAC makes where the call is accepted. */
+/* Number and answers, and the move that MAC makes where the call is accepted. The compiler does not inline it by itself: then its result is put
+ * together in memory and copied. */
+#ifdef INLINED
+__attribute__((always_inline))
+#endif
 static inline hv_outcome judge(const hv_facility *f, uint8_t request, uint8_t p, uint8_t t, uint8_t e, struct move *m)
 {
     hv_outcome o = {questions(f, request, p, t, e), HV_NOT_CARED, HV_NOT_CARED, HV_NOT_CARED, HV_NOT_CARED, HV_NO_OBJECT, HV_NOT_CARED};

@@ -1,4 +1,4 @@
-/* The run program in plain C: reads `setup.bin` and calls from standard input, in blocks as the proved one does. */
+/* The run program in plain C, compiled in the two ways of plain.h: reads `setup.bin` and calls from standard input, in blocks as the proved one does. */
 #include <stdio.h>
 #include <unistd.h>
 

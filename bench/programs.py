@@ -1,4 +1,4 @@
-"""The run program, the same in plain C, and the model in Python, on the same calls: the same output, and how long each takes."""
+"""The run program, the same in plain C compiled in two ways, and the model in Python, on the same calls: the same output, and how long each takes."""
 
 import os
 import random
@@ -15,6 +15,7 @@ from records import object_record, switches_record, user_record  # noqa: E402
 
 PROVED = [os.path.join(ROOT, "target", "bin", "run")]
 PLAIN = [os.path.join(ROOT, "target", "bench", "plain_run")]
+INLINED = [os.path.join(ROOT, "target", "bench", "inlined_run")]
 MODEL = [sys.executable, "-B", os.path.join(ROOT, "model", "run.py")]
 CALLS, MODEL_CALLS, ROUNDS, MODEL_ROUNDS = 1000000, 100000, 25, 5
 
@@ -55,10 +56,11 @@ def seconds(program, folder, path):
 
 def in_turns(folder, path, part):
     """Rounds in which each program takes its turn, the model in the first ones; best and median of each."""
-    taken = {"proved": [], "plain": [], "model": []}
+    taken = {"proved": [], "plain": [], "inlined": [], "model": []}
     for k in range(ROUNDS):
         taken["proved"].append(seconds(PROVED, folder, path))
         taken["plain"].append(seconds(PLAIN, folder, path))
+        taken["inlined"].append(seconds(INLINED, folder, path))
         if k < MODEL_ROUNDS:
             taken["model"].append(seconds(MODEL, folder, part) * CALLS / MODEL_CALLS)
     return {name: (min(t), statistics.median(t)) for name, t in taken.items()}
@@ -78,7 +80,7 @@ def measured():
         data = calls(rng, CALLS)
         part = data[:MODEL_CALLS * 4]
         got = output(PROVED, folder, data)
-        if got != output(PLAIN, folder, data):
+        if got != output(PLAIN, folder, data) or got != output(INLINED, folder, data):
             sys.exit("the run programs differ")
         modelled = output(MODEL, folder, part)
         if modelled != b"".join(line + b"\n" for line in got.split(b"\n")[:MODEL_CALLS]):

@@ -64,7 +64,7 @@ static enum status answer_words(hv_facility *f, uint64_t first, const uint8_t *c
     size_t place = 0;
     if (length < 4) return answer_lines(f, first, calls, length);       /* `short` is the same */
     for (size_t i = 0; i < length; i += 4) {
-        hv_printed p = hv_put_words(*f, first + i / 4, calls[i], calls[i + 1], calls[i + 2], calls[i + 3], out + place);
+        hv_printed p = hv_put_words(*f, first + i / 4, (hv_call){calls[i], calls[i + 1], calls[i + 2], calls[i + 3], 0}, out + place);
         *f = p.facility;
         place += p.length;
         if (place > HV_WORDS_ROOM) {

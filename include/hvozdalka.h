@@ -16,12 +16,12 @@
  *
  * A process carries the number of moves that its current label made by itself: the changes of it, of the level or of the set, by calls of class R, W
  * or B that the process made since its login. A clone begins with its parent's number. HV_SET_LEVEL and signals are no moves, nor is a refused call;
- * with MAC off, or for a trusted owner, there are none. After any calls from a fresh facility the number is at most that of hv_most_moves for its
+ * with MAC off, or for a trusted owner, there are none. After any calls from a fresh facility the number is at most that of hv_most_moves_at for its
  * owner: the clearance's level plus its number of categories plus 1.
  *
- * A facility is a value: hv_enforce takes one and returns the next. hv_enforce_at changes one where it is, which is faster; it is proved
- * to do the same. A query reserves nothing: what it says, or whatever else is read of a facility, holds until the next call on that facility, and
- * only enforce permits.
+ * hv_enforce_at changes a facility where it is, and so is what a desktop uses. A facility is a value too: hv_enforce takes one and returns the next, which is
+ * slower; the two are proved to do the same. So of every two functions here: those whose names end in _at work on a facility where it is. A query reserves
+ * nothing: what it says, or whatever else is read of a facility, holds until the next call on that facility, and only enforce permits.
  *
  * The promise of flow (demand 3, docs/PROVED.md) is of facilities that came from a set-up by calls alone. A facility's memory is the caller's to
  * protect: a byte that somebody else writes there is believed.
@@ -46,7 +46,7 @@ extern "C" {
 #endif
 
 /* The version of these declarations and the size of a facility, to be compared with hv_version() and hv_facility_size() of the library that is linked. */
-#define HV_VERSION 7
+#define HV_VERSION 8
 #define HV_FACILITY_SIZE 5580
 
 /* Limits: users, processes and objects of a facility, and bytes of a set-up. */
@@ -71,7 +71,7 @@ extern "C" {
                                       * hv_flag_source, hv_open_marks, hv_refusals, hv_summary, hv_account_start, hv_account_holds */
 #define HV_STACK_MOST 98304          /* hv_enforce, hv_read_setup, hv_read_setup_at, hv_replay, hv_holds, hv_account_step, hv_put_block, hv_put_words */
 
-/* Requests: byte 0 of a call. Byte 1 is the process p, byte 2 the target t, byte 3 the extra e. */
+/* Requests: byte 0 of a call. Byte 1 is the process p, byte 2 the target t, byte 3 the extra e (hv_call). */
 enum hv_request {
     HV_ALTER = 0,
     HV_CHANGE_OWNER = 1,
@@ -101,7 +101,7 @@ enum hv_request {
 enum hv_number {
     HV_ACCEPTED = 0,
     HV_NO_REQUEST = 1,               /* the request is above 21 */
-    HV_NO_PROCESS_NUMBER = 2,        /* p, or for clone and send-signal t, is above 31 */
+    HV_NO_PROCESS_NUMBER = 2,        /* p, or for clone and send-signal t, is above 31; or the seat is not 0 */
     HV_NOT_RUNNING = 3,              /* p, or for send-signal t, does not run */
     HV_NOT_FREE = 4,                 /* the new process number runs */
     HV_NO_USER = 5,                  /* login: e is no user */
@@ -186,6 +186,10 @@ typedef struct hv_facility {
     uint8_t writesets[HV_PROCESSES];
 } hv_facility;
 
+/* A call: request, process p, target t, extra e, and the seat that process p is at. There is one seat, 0. Another has no process, so that a call of it is
+ * refused with HV_NO_PROCESS_NUMBER, or with HV_NO_REQUEST, and changes nothing. [callOf, hvozdalka/Numbers; OtherSeats, hvozdalka/Seats] */
+typedef struct hv_call { uint8_t request, process, target, extra, seat; } hv_call;
+
 /* What a call came to: refusal number, answers of MAC, FC and SIM, the combination of all four modules' answers, the object that an accepted
  * create gave (else 255), and the answer of FF, the file flags. */
 typedef struct hv_outcome { uint8_t number, mac, fc, sim, combined, object, ff; } hv_outcome;
@@ -200,7 +204,7 @@ typedef struct hv_failed {
     bool receiver;                              /* MAC: the current labels of the sender and the receiver differ */
     bool nocategory, category;                  /* FC: the object's category is unset; it is set, not general, and not that of the owner's role */
     bool datatype;                              /* SIM: the object is security information, and the owner no security officer */
-    uint8_t flag;                               /* FF: the first flag that forbids, of hv_flag, or 0; hv_flag_source tells whose own it is */
+    uint8_t flag;                               /* FF: the first flag that forbids, of hv_flag, or 0; hv_flag_source_at tells whose own it is */
 } hv_failed;
 
 typedef struct hv_enforced { hv_facility facility; hv_outcome outcome; } hv_enforced;
@@ -222,46 +226,91 @@ typedef struct hv_process_record { uint8_t running, owner; hv_label current, rea
 typedef struct hv_object_record { uint8_t live, kind; hv_label label; uint8_t category, datatype, flags, parent; } hv_object_record;
 typedef struct hv_summary_record { uint8_t mac, fc, sim, users, entered, ff; } hv_summary_record;
 
-/* Reads a set-up. Number 0 and the fresh facility; or the number 14 to 17 or 19, the index of the record refused (0 with 14), and the facility
- * of a switches record with all off. [readSetup, rules/Setup] */
-hv_reading hv_read_setup(const uint8_t *bytes, size_t length);
+/* ON A FACILITY WHERE IT IS, without a copy. Its bytes are the facility of the definitions [facilityAt, in_place/Layout]; where one is changed, its bytes
+ * become those of the next, and the six bytes of padding are untouched. */
 
-/* The same into a facility where it is, whose padding stays. [readSetup, rules/Setup, of facilityAt, in_place/Layout] */
+/* Reads a set-up into a facility. Number 0 and the fresh facility; or the number 14 to 17 or 19, the index of the record refused (0 with 14), and the
+ * facility of a switches record with all off. [readSetup, rules/Setup] */
 hv_setup_numbers hv_read_setup_at(const uint8_t *bytes, size_t length, hv_facility *f);
 
 /* Writes a facility's set-up into `out`: switches, users, live objects in order, each with its parent by the new number (0 where the parent
  * was deleted). Number 0 and the length, and later bytes are untouched; or number 18 and length 0 where `out` is too short, and it is
- * untouched. [writeSetup, rules/Setup] */
-hv_writing hv_write_setup(hv_facility f, uint8_t *out, size_t length);
-
-/* The same of a facility where it is, without a copy. `out` has no byte of the facility. [writeSetup of facilityAt, in_place/Layout] */
+ * untouched. `out` has no byte of the facility. [writeSetup, rules/Setup] */
 hv_writing hv_write_setup_at(const hv_facility *f, uint8_t *out, size_t length);
 
-/* What hv_enforce would answer; nothing changes. [query, rules/Calls] */
-hv_outcome hv_query(hv_facility f, uint8_t request, uint8_t process, uint8_t target, uint8_t extra);
+/* What hv_enforce_at would answer; nothing changes. [query, rules/Calls] */
+hv_outcome hv_query_at(const hv_facility *f, hv_call call);
 
-/* A call: the facility after it, and what it came to. A refused call changes nothing but, with 12 and 13, the counter of refusals of the user
- * who owns the calling process; a refused signal carries nothing, and nothing may be sent with it. An accepted signal changes at most the read mark
- * of process `target`, also where it is `process` itself. [enforce, rules/Calls] */
-hv_enforced hv_enforce(hv_facility f, uint8_t request, uint8_t process, uint8_t target, uint8_t extra);
-
-/* The same of a facility where it is, without a copy. After hv_enforce_at the bytes are those of the facility after the call, and the six
- * bytes of padding are untouched. [query, after, rules/Calls, of facilityAt, in_place/Layout] */
-hv_outcome hv_query_at(const hv_facility *f, uint8_t request, uint8_t process, uint8_t target, uint8_t extra);
-hv_outcome hv_enforce_at(hv_facility *f, uint8_t request, uint8_t process, uint8_t target, uint8_t extra);
+/* A call: what it came to, and the facility becomes the one after it. A refused call changes nothing but, with 12 and 13, the counter of refusals of the
+ * user who owns the calling process; a refused signal carries nothing, and nothing may be sent with it. An accepted signal changes at most the read mark
+ * of process t, also where it is p itself. [query, after, rules/Calls] */
+hv_outcome hv_enforce_at(hv_facility *f, hv_call call);
 
 /* Which conditions fail where this call is refused with 12 or 13; all false and flag 0 with any other number. It may be asked before the refused call or
  * after it, which changes none of them. [failedOf, reasons/Reasons] */
-hv_failed hv_why(hv_facility f, uint8_t request, uint8_t process, uint8_t target, uint8_t extra);
-hv_failed hv_why_at(const hv_facility *f, uint8_t request, uint8_t process, uint8_t target, uint8_t extra);
+hv_failed hv_why_at(const hv_facility *f, hv_call call);
 
 /* The same in words, each as ` (label not under the clearance)` or ` (read-only of object 3)`, at the front of `out`: how many bytes; what does not fit
  * is cut off, and HV_WHY_MOST hold any. [whyText, names/Reasons] */
-size_t hv_why_words(hv_facility f, uint8_t request, uint8_t process, uint8_t target, uint8_t extra, uint8_t *out, size_t length);
-size_t hv_why_words_at(const hv_facility *f, uint8_t request, uint8_t process, uint8_t target, uint8_t extra, uint8_t *out, size_t length);
+size_t hv_why_words_at(const hv_facility *f, hv_call call, uint8_t *out, size_t length);
 
-/* The facility of a set-up after calls of four bytes each; one to three left-over bytes are no call. Number and index are those of hv_read_setup: with a
- * refused set-up the calls are made on a facility with all switches off. [replayNumbers, hvozdalka/Numbers] */
+/* The lines that the run program prints for a block of calls of four bytes each, the first of which has index `first`, stored at the front of `out`, and
+ * the facility becomes the one after them: how many bytes the lines have. What does not fit is cut off: HV_LINE_MOST for each call and HV_SHORT_MOST
+ * hold it all. Where `first` is 2^63 or more no call is made. [blockText, facilityAfter, lines/Blocks] */
+size_t hv_put_block_at(hv_facility *f, uint64_t first, const uint8_t *calls, size_t calls_length, uint8_t *out, size_t out_length);
+
+/* A user, a process, an object; all fields are 0 for a number that is none. A process's `moves` is how often its current label moved by itself, at
+ * most hv_most_moves_at of its owner after any calls from a fresh facility. [userOf, processOf, objectOf, state/State] */
+hv_user_record hv_user_at(const hv_facility *f, uint8_t user);
+hv_process_record hv_process_at(const hv_facility *f, uint8_t process);
+hv_object_record hv_object_at(const hv_facility *f, uint8_t object);
+
+/* How often the current label of a process of that user moves by itself at most: the level of the user's clearance plus its number of categories
+ * plus 1; 1 for a number that is none. [movesBound, rules/Histories, of clearanceOf, state/State] */
+uint32_t hv_most_moves_at(const hv_facility *f, uint8_t user);
+
+/* The effective flags of object t, whether FF is on or off: its own and, with HV_ADD_INHERITED among these, the effective ones of its parent
+ * without no-delete, where the parent is not deleted; 0 for a number above 127. [effective, rules/FileFlags] */
+uint8_t hv_effective_flags_at(const hv_facility *f, uint8_t t);
+
+/* Where object t has a flag from, one of hv_flag: the number of the object whose own flag it is, t itself or the nearest object up the chain;
+ * HV_NO_OBJECT where the flag is not among t's effective ones. [flagSource, rules/FileFlags] */
+uint8_t hv_flag_source_at(const hv_facility *f, uint8_t t, uint8_t flag);
+
+/* How a process has an object open: 1 for reading, 2 for writing, 3 for both, else 0; 0 for a number that is none. [openMarks, hvozdalka/Numbers] */
+uint8_t hv_open_marks_at(const hv_facility *f, uint8_t process, uint8_t object);
+
+/* How many calls were refused with 12 or 13 whose caller the user owned when the call was made, up to 4,294,967,295; 0 for a number that is
+ * none. While no user's is there, the sixteen add up to all 12s and 13s. [refusalsOf, state/State] */
+uint32_t hv_refusals_at(const hv_facility *f, uint8_t user);
+
+/* Switches, and how many users there are and objects were entered. [summaryOf, hvozdalka/Numbers] */
+hv_summary_record hv_summary_at(const hv_facility *f);
+
+/* THE SAME BY VALUE: of a facility that is handed in, and back where a call changes it. [the same definitions, of f] */
+hv_reading hv_read_setup(const uint8_t *bytes, size_t length);
+hv_writing hv_write_setup(hv_facility f, uint8_t *out, size_t length);
+hv_outcome hv_query(hv_facility f, hv_call call);
+hv_enforced hv_enforce(hv_facility f, hv_call call);
+hv_failed hv_why(hv_facility f, hv_call call);
+size_t hv_why_words(hv_facility f, hv_call call, uint8_t *out, size_t length);
+hv_printed hv_put_block(hv_facility f, uint64_t first, const uint8_t *calls, size_t calls_length, uint8_t *out, size_t out_length);
+hv_user_record hv_user(hv_facility f, uint8_t user);
+hv_process_record hv_process(hv_facility f, uint8_t process);
+hv_object_record hv_object(hv_facility f, uint8_t object);
+uint32_t hv_most_moves(hv_facility f, uint8_t user);
+uint8_t hv_effective_flags(hv_facility f, uint8_t t);
+uint8_t hv_flag_source(hv_facility f, uint8_t t, uint8_t flag);
+uint8_t hv_open_marks(hv_facility f, uint8_t process, uint8_t object);
+uint32_t hv_refusals(hv_facility f, uint8_t user);
+hv_summary_record hv_summary(hv_facility f);
+
+/* A call and its line in words, as the program run_words prints it, with its newline, at the front of `out`, which has HV_WORDS_ROOM bytes: the facility
+ * after the call, and how many bytes the line has. [sentence, words/Sentences; after, rules/Calls] */
+hv_printed hv_put_words(hv_facility f, uint64_t index, hv_call call, uint8_t *out);
+
+/* OF LISTS OF CALLS. The facility of a set-up after calls of four bytes each; one to three left-over bytes are no call. Number and index are those of
+ * hv_read_setup: with a refused set-up the calls are made on a facility with all switches off. [replayNumbers, hvozdalka/Numbers] */
 hv_reading hv_replay(const uint8_t *setup, size_t setup_length, const uint8_t *calls, size_t calls_length);
 
 /* Whether object x holds the matter of object c after the calls, and number and index as hv_replay. An accepted signal carries: its receiver holds what it
@@ -272,22 +321,10 @@ hv_held hv_holds(const uint8_t *setup, size_t setup_length, const uint8_t *calls
  * was accepted (number 0), and whether object x holds the matter of c: after all calls what hv_holds answers. [startOf, stepOf, heldBy, matter/LedgerSteps;
  * held-exactly, matter/Laws/AfterCalls] */
 hv_account hv_account_start(hv_facility f);
-hv_account hv_account_step(hv_account account, uint8_t request, uint8_t process, uint8_t target, uint8_t extra, bool accepted);
+hv_account hv_account_step(hv_account account, hv_call call, bool accepted);
 bool hv_account_holds(hv_account account, uint8_t x, uint8_t c);
 
-/* The lines that the run program prints for a block of calls, the first of which has index `first`, stored at the front of `out`, and the
- * facility after them. What does not fit is cut off: HV_LINE_MOST for each call and HV_SHORT_MOST hold it all. Where `first` is 2^63 or
- * more no call is made. [blockText, facilityAfter, lines/Blocks] */
-hv_printed hv_put_block(hv_facility f, uint64_t first, const uint8_t *calls, size_t calls_length, uint8_t *out, size_t out_length);
-
-/* The same on a facility where it is, which becomes the facility after them; the padding stays. How many bytes the lines have. */
-size_t hv_put_block_at(hv_facility *f, uint64_t first, const uint8_t *calls, size_t calls_length, uint8_t *out, size_t out_length);
-
-/* A call and its line in words, as the program run_words prints it, with its newline, at the front of `out`, which has HV_WORDS_ROOM bytes: the facility
- * after the call, and how many bytes the line has. [sentence, words/Sentences; after, rules/Calls] */
-hv_printed hv_put_words(hv_facility f, uint64_t index, uint8_t request, uint8_t process, uint8_t target, uint8_t extra, uint8_t *out);
-
-/* A refused set-up in words, with its newline, at the front of `out`, which has HV_WORDS_ROOM bytes: how many bytes. [setupSentence, words/Sentences] */
+/* WORDS. A refused set-up, with its newline, at the front of `out`, which has HV_WORDS_ROOM bytes: how many bytes. [setupSentence, words/Sentences] */
 size_t hv_put_setup_words(uint8_t number, uint16_t index, uint8_t *out);
 
 /* The words for a request, a kind, an answer, a flag, a role, a category for FC and a data type, and what a refusal number says, at the front of `out`,
@@ -302,46 +339,7 @@ size_t hv_role_words(uint8_t role, uint8_t *out, size_t length);
 size_t hv_category_words(uint8_t category, uint8_t *out, size_t length);
 size_t hv_data_type_words(uint8_t data_type, uint8_t *out, size_t length);
 
-/* A user, a process, an object; all fields are 0 for a number that is none. A process's `moves` is how often its current label moved by itself, at
- * most hv_most_moves of its owner after any calls from a fresh facility. [userOf, processOf, objectOf, state/State] */
-hv_user_record hv_user(hv_facility f, uint8_t user);
-hv_process_record hv_process(hv_facility f, uint8_t process);
-hv_object_record hv_object(hv_facility f, uint8_t object);
-
-/* How often the current label of a process of that user moves by itself at most: the level of the user's clearance plus its number of categories
- * plus 1; 1 for a number that is none. [movesBound, rules/Histories, of clearanceOf, state/State] */
-uint32_t hv_most_moves(hv_facility f, uint8_t user);
-
-/* The effective flags of object t, whether FF is on or off: its own and, with HV_ADD_INHERITED among these, the effective ones of its parent
- * without no-delete, where the parent is not deleted; 0 for a number above 127. [effective, rules/FileFlags] */
-uint8_t hv_effective_flags(hv_facility f, uint8_t t);
-
-/* Where object t has a flag from, one of hv_flag: the number of the object whose own flag it is, t itself or the nearest object up the chain;
- * HV_NO_OBJECT where the flag is not among t's effective ones. [flagSource, rules/FileFlags] */
-uint8_t hv_flag_source(hv_facility f, uint8_t t, uint8_t flag);
-
-/* How a process has an object open: 1 for reading, 2 for writing, 3 for both, else 0; 0 for a number that is none. [openMarks, hvozdalka/Numbers] */
-uint8_t hv_open_marks(hv_facility f, uint8_t process, uint8_t object);
-
-/* How many calls were refused with 12 or 13 whose caller the user owned when the call was made, up to 4,294,967,295; 0 for a number that is
- * none. While no user's is there, the sixteen add up to all 12s and 13s. [refusalsOf, state/State] */
-uint32_t hv_refusals(hv_facility f, uint8_t user);
-
-/* Switches, and how many users there are and objects were entered. [summaryOf, hvozdalka/Numbers] */
-hv_summary_record hv_summary(hv_facility f);
-
-/* The same of a facility where it is, without a copy. [of facilityAt, in_place/Layout] */
-hv_user_record hv_user_at(const hv_facility *f, uint8_t user);
-hv_process_record hv_process_at(const hv_facility *f, uint8_t process);
-hv_object_record hv_object_at(const hv_facility *f, uint8_t object);
-uint32_t hv_most_moves_at(const hv_facility *f, uint8_t user);
-uint8_t hv_effective_flags_at(const hv_facility *f, uint8_t t);
-uint8_t hv_flag_source_at(const hv_facility *f, uint8_t t, uint8_t flag);
-uint8_t hv_open_marks_at(const hv_facility *f, uint8_t process, uint8_t object);
-uint32_t hv_refusals_at(const hv_facility *f, uint8_t user);
-hv_summary_record hv_summary_at(const hv_facility *f);
-
-/* What the library was built with: compare with HV_VERSION and HV_FACILITY_SIZE before anything else. */
+/* WHAT THE LIBRARY WAS BUILT WITH: compare with HV_VERSION and HV_FACILITY_SIZE before anything else. */
 uint32_t hv_version(void);
 size_t hv_facility_size(void);
 

@@ -14,7 +14,8 @@
  * the buffer, whose bytes were 165, with eight bytes behind it; then for each pair whether the first holds the matter of the second after the calls.
  * Each call is made by value and where the facility is, why it is refused is asked both ways, and each set-up written out; a difference between the two
  * ends the program with status 1, a set-up written out that is not read back as it is with status 3, a text that is not cut off as it has to be, or
- * that touches a byte behind it, with status 4. With an argument it prints the words of each byte as a role, a category and a data type instead, a line
+ * that touches a byte behind it, with status 4. Each call is first made at another seat, on a copy; where it does not get 1 or 2 there, or changes
+ * anything, the program ends with status 5. With an argument it prints the words of each byte as a role, a category and a data type instead, a line
  * for each byte. */
 #include <stdio.h>
 #include <stdlib.h>
@@ -47,6 +48,11 @@ static size_t number(const uint8_t *b, int n)
 static void put_words(const uint32_t *words, int n)
 {
     for (int k = 0; k < n; k++) put((uint8_t[4]){words[k] & 255, words[k] >> 8 & 255, words[k] >> 16 & 255, words[k] >> 24}, 4);
+}
+
+static hv_call call_of(const uint8_t *c)
+{
+    return (hv_call){c[0], c[1], c[2], c[3], 0};
 }
 
 /* All of a facility but its padding. */
@@ -128,7 +134,7 @@ static int holds(const uint8_t *buffer, const uint8_t *bytes, size_t n)
 
 static size_t why_words(const hv_facility *f, const uint8_t *c, int at, uint8_t *out, size_t length)
 {
-    return at ? hv_why_words_at(f, c[0], c[1], c[2], c[3], out, length) : hv_why_words(*f, c[0], c[1], c[2], c[3], out, length);
+    return at ? hv_why_words_at(f, call_of(c), out, length) : hv_why_words(*f, call_of(c), out, length);
 }
 
 /* The text of why a call is refused; then into a shorter buffer, and into none. */
@@ -149,7 +155,7 @@ static void put_why_words(const hv_facility *f, const uint8_t *c)
 
 static void put_why(const hv_facility *f, const uint8_t *c)
 {
-    hv_failed w[2] = {hv_why(*f, c[0], c[1], c[2], c[3]), hv_why_at(f, c[0], c[1], c[2], c[3])};
+    hv_failed w[2] = {hv_why(*f, call_of(c)), hv_why_at(f, call_of(c))};
     uint8_t b[2][10];
     for (int k = 0; k < 2; k++)
         memcpy(b[k], (uint8_t[10]){w[k].unset, w[k].fixed, w[k].clearance, w[k].writemark, w[k].readmark, w[k].receiver, w[k].nocategory, w[k].category,
@@ -159,13 +165,26 @@ static void put_why(const hv_facility *f, const uint8_t *c)
     put_why_words(f, c);
 }
 
+/* At another seat there is no process: the same call is refused there, and changes nothing. */
+static void at_other_seat(const hv_facility *f, const uint8_t *c)
+{
+    hv_call call = call_of(c);
+    hv_facility g = *f;
+    uint8_t number = c[0] > HV_LOGIN ? HV_NO_REQUEST : HV_NO_PROCESS_NUMBER;
+    call.seat = (uint8_t)(1 + (c[0] + c[1] + c[2] + c[3]) % 255);
+    hv_outcome o = hv_enforce_at(&g, call), q = hv_query_at(f, call);
+    hv_enforced e = hv_enforce(*f, call);
+    if (o.number != number || q.number != number || e.outcome.number != number || !same(&g, f) || !same(&e.facility, f)) exit(5);
+}
+
 static void one_call(hv_facility *f, const uint8_t *c)
 {
     put_in(f, c);
+    at_other_seat(f, c);
     put_why(f, c);
-    hv_outcome q = hv_query_at(f, c[0], c[1], c[2], c[3]);
-    hv_enforced e = hv_enforce(*f, c[0], c[1], c[2], c[3]);
-    hv_outcome o = hv_enforce_at(f, c[0], c[1], c[2], c[3]);
+    hv_outcome q = hv_query_at(f, call_of(c));
+    hv_enforced e = hv_enforce(*f, call_of(c));
+    hv_outcome o = hv_enforce_at(f, call_of(c));
     if (memcmp(&o, &e.outcome, sizeof o) || memcmp(&o, &q, sizeof o) || !same(f, &e.facility)) exit(1);
     put_why(f, c);
     uint32_t refusals[HV_USERS];

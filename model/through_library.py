@@ -2,18 +2,18 @@
 
 Set-ups and lists of calls from the seed, until CALLS calls were made, through model/library.c: those of fuzz.py, as many in which many users and
 objects meet calls that the modules judge, and as many in which labels move; most set-ups have categories. Each call is made by value and where the
-facility is. Before each call and after it what is told of why it is refused is compared, as bytes and in words. After each call its outcome, the
-sixteen counters of refusals, for each user how often its processes move at most, for every process the number of moves and all labels, level and set,
-the calling process, the target as a process and the target as an object are compared, the object with its effective flags and where each comes from;
-after the last call the set-up written out, which must be read back, also into buffers that are too short or longer: of the first lists of each kind
-into those of every length up to 8 bytes beyond the need. Half of the lists begin with counters that C put into the facility, at their stop, next to
-it, or anywhere; in some C puts in marks of open objects, so that a write meets a read-only file, which no list of calls has open for writing, or
-levels and sets of a process, so that with MAC off there are labels other than the first ones, which no list of calls gives, or a number of moves, at
-its stop, next to it, or any, or sets of any byte for a process, an object or a clearance. Where C put in no labels and no moves, each number of moves
-is held against the history of its process, and is at most the owner's clearance's level plus its number of categories plus 1. Of some lists with
-accepted signals hv_holds is asked who holds whose matter, which it works out from the set-up and the calls. The words of roles, categories and data
-types are compared once, of every byte. examples/c/library makes the library; cc, or what CC names, builds the program. Ends with the number of calls,
-or at the first difference.
+facility is, and before that on a copy at another seat, where it must be refused and change nothing. Before each call and after it what is told of why
+it is refused is compared, as bytes and in words. After each call its outcome, the sixteen counters of refusals, for each user how often its processes
+move at most, for every process the number of moves and all labels, level and set, the calling process, the target as a process and the target as an
+object are compared, the object with its effective flags and where each comes from; after the last call the set-up written out, which must be read
+back, also into buffers that are too short or longer: of the first lists of each kind into those of every length up to 8 bytes beyond the need. Half
+of the lists begin with counters that C put into the facility, at their stop, next to it, or anywhere; in some C puts in marks of open objects, so
+that a write meets a read-only file, which no list of calls has open for writing, or levels and sets of a process, so that with MAC off there are
+labels other than the first ones, which no list of calls gives, or a number of moves, at its stop, next to it, or any, or sets of any byte for a
+process, an object or a clearance. Where C put in no labels and no moves, each number of moves is held against the history of its process, and is at
+most the owner's clearance's level plus its number of categories plus 1. Of some lists with accepted signals hv_holds is asked who holds whose matter,
+which it works out from the set-up and the calls. The words of roles, categories and data types are compared once, of every byte. examples/c/library
+makes the library; cc, or what CC names, builds the program. Ends with the number of calls, or at the first difference.
 """
 
 import collections
@@ -48,7 +48,8 @@ OTHER = 165                   # what stands in a buffer before
 JUDGED = (model.READ_OPEN, model.READ_OPEN, model.SEARCH, model.GET_STATUS, model.WRITE_OPEN, model.READ_WRITE_OPEN)
 PAIRS = 6                     # so many times the account is asked of a list at most
 ASKED = 16                    # of objects below this number
-STATUSES = {1: "differs: by value and where the facility is", 3: "differs: a set-up written out is not read back", 4: "differs: a text cut off"}
+STATUSES = {1: "differs: by value and where the facility is", 3: "differs: a set-up written out is not read back", 4: "differs: a text cut off",
+            5: "differs: a call at a seat that has no process"}
 
 
 def build():

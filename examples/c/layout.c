@@ -52,6 +52,8 @@ _Static_assert(sizeof(hv_facility) == 5580, "facility");
 _Static_assert(offsetof(hv_enforced, outcome) == 5580 && sizeof(hv_enforced) == 5588, "enforced");
 _Static_assert(offsetof(hv_reading, number) == 5580 && offsetof(hv_reading, index) == 5582 && sizeof(hv_reading) == 5584, "reading");
 _Static_assert(offsetof(hv_printed, length) == 5584 && sizeof(hv_printed) == 5592, "printed");
+_Static_assert(sizeof(hv_call) == 5 && offsetof(hv_call, request) == 0 && offsetof(hv_call, process) == 1 && offsetof(hv_call, target) == 2
+               && offsetof(hv_call, extra) == 3 && offsetof(hv_call, seat) == 4, "call");
 _Static_assert(sizeof(hv_outcome) == 7 && offsetof(hv_outcome, object) == 5 && offsetof(hv_outcome, ff) == 6, "outcome");
 _Static_assert(sizeof(hv_writing) == 16 && offsetof(hv_writing, number) == 8, "writing");
 _Static_assert(sizeof(hv_label) == 2 && offsetof(hv_label, level) == 0 && offsetof(hv_label, set) == 1, "label");
@@ -79,6 +81,12 @@ enum { TAIL = offsetof(hv_facility, writesets) + HV_PROCESSES, TAIL_END = sizeof
 _Static_assert(PAD == 4981 && PAD_END == 4984 && TAIL == 5577 && TAIL_END == 5580, "paddings");
 
 static const uint8_t each_flag[] = {HV_READ_ONLY, HV_NO_EXECUTE, HV_NO_DELETE, HV_SEARCH_ONLY, HV_ADD_INHERITED};
+
+/* The call of four bytes. */
+static hv_call call_of(const uint8_t c[4])
+{
+    return (hv_call){c[0], c[1], c[2], c[3], 0};
+}
 
 static int label_is(hv_label label, int level, int set)
 {
@@ -161,10 +169,10 @@ static int same_paddings(const hv_facility *f, const hv_facility *g)
 /* A call of no request gives the facility back: each byte of it, out of the library. */
 static void handed_back(hv_facility f)
 {
-    hv_enforced e = hv_enforce(f, 255, 0, 0, 0);
+    hv_enforced e = hv_enforce(f, (hv_call){255, 0, 0, 0, 0});
     expect(same_facility(&e.facility, &f), "facility handed back", 0);
     hv_facility g = f;
-    hv_outcome o = hv_enforce_at(&g, 255, 0, 0, 0);
+    hv_outcome o = hv_enforce_at(&g, (hv_call){255, 0, 0, 0, 0});
     expect(memcmp(&g, &f, sizeof f) == 0 && o.number == HV_NO_REQUEST, "facility where it is", 0);
     expect(e.outcome.number == HV_NO_REQUEST && e.outcome.combined == HV_NOT_CARED && e.outcome.object == HV_NO_OBJECT
            && e.outcome.ff == HV_NOT_CARED, "outcome", 0);
@@ -273,13 +281,14 @@ static void shield(void)
     expect(r.number == HV_ACCEPTED && r.facility.ff == 1 && r.facility.flags[1] == 5 && r.facility.parents[2] == 2, "set-up of a shield", r.number);
     hv_writing w = hv_write_setup(r.facility, out, sizeof out);
     expect(w.number == HV_ACCEPTED && w.length == sizeof setup && memcmp(out, setup, sizeof setup) == 0, "set-up of a shield, written", w.number);
-    hv_enforce_at(&r.facility, HV_LOGIN, 0, 0, 0);
-    hv_outcome o = hv_enforce_at(&r.facility, HV_WRITE_OPEN, 0, 2, 0);
+    const hv_call save = {HV_WRITE_OPEN, 0, 2, 0, 0};
+    hv_enforce_at(&r.facility, (hv_call){HV_LOGIN, 0, 0, 0, 0});
+    hv_outcome o = hv_enforce_at(&r.facility, save);
     expect(o.number == HV_DENIED && o.ff == HV_NOT_GRANTED && o.combined == HV_NOT_GRANTED && o.object == HV_NO_OBJECT, "shield", o.number);
     static const char why[] = " (read-only of object 1)";
     uint8_t said[HV_WHY_MOST];
-    size_t n = hv_why_words(r.facility, HV_WRITE_OPEN, 0, 2, 0, said, sizeof said);
-    expect(hv_why(r.facility, HV_WRITE_OPEN, 0, 2, 0).flag == HV_READ_ONLY && n == strlen(why) && memcmp(said, why, n) == 0, "reason of a shield", (int)n);
+    size_t n = hv_why_words(r.facility, save, said, sizeof said);
+    expect(hv_why(r.facility, save).flag == HV_READ_ONLY && n == strlen(why) && memcmp(said, why, n) == 0, "reason of a shield", (int)n);
     expect(hv_effective_flags(r.facility, 2) == (HV_ADD_INHERITED | HV_READ_ONLY), "effective flags of a shield", 2);
     expect(hv_flag_source(r.facility, 2, HV_READ_ONLY) == 1 && hv_flag_source(r.facility, 2, HV_NO_DELETE) == HV_NO_OBJECT, "source of a shield", 2);
     uint8_t damaged[sizeof setup];
@@ -298,8 +307,8 @@ static void signal_to(hv_facility f, uint8_t p, uint8_t t, uint8_t number, int r
         wanted.readsets[t] = f.currentsets[t];
     }
     if (number == HV_DENIED) wanted.refusals[f.owners[p]]++;
-    hv_enforced e = hv_enforce(f, HV_SEND_SIGNAL, p, t, 0);
-    hv_outcome o = hv_enforce_at(&g, HV_SEND_SIGNAL, p, t, 0);
+    hv_enforced e = hv_enforce(f, (hv_call){HV_SEND_SIGNAL, p, t, 0, 0});
+    hv_outcome o = hv_enforce_at(&g, (hv_call){HV_SEND_SIGNAL, p, t, 0, 0});
     expect(e.outcome.number == number && o.number == number, what, o.number);
     expect(same_facility(&e.facility, &wanted), what, e.facility.readmarks[t]);
     expect(same_facility(&g, &wanted) && same_paddings(&g, &f), what, g.readmarks[t]);
@@ -325,7 +334,7 @@ static void signals(void)
     };
     hv_facility f = hv_read_setup(setup, sizeof setup).facility;
     for (size_t k = 0; k < sizeof calls / sizeof calls[0]; k++)
-        expect(hv_enforce_at(&f, calls[k][0], calls[k][1], calls[k][2], calls[k][3]).number == HV_ACCEPTED, "call before a signal", (int)k);
+        expect(hv_enforce_at(&f, call_of(calls[k])).number == HV_ACCEPTED, "call before a signal", (int)k);
     expect(f.readmarks[0] == 2 && f.readmarks[1] == 0 && f.readmarks[2] == 0 && f.readmarks[3] == 0, "read marks before a signal", f.readmarks[1]);
     signal_to(f, 0, 1, HV_ACCEPTED, 1, "signal to an untrusted receiver");
     signal_to(f, 0, 2, HV_ACCEPTED, 0, "signal to a trusted receiver");
@@ -351,8 +360,8 @@ static void signals(void)
 static void move_of(hv_facility *f, uint8_t request, uint8_t p, uint8_t t, uint8_t e, uint8_t moves, const char *what)
 {
     hv_facility before = *f;
-    hv_enforced r = hv_enforce(*f, request, p, t, e);
-    hv_outcome o = hv_enforce_at(f, request, p, t, e);
+    hv_enforced r = hv_enforce(*f, (hv_call){request, p, t, e, 0});
+    hv_outcome o = hv_enforce_at(f, (hv_call){request, p, t, e, 0});
     uint8_t q = request == HV_CLONE ? t : p;
     before.moves[q] = moves;
     expect(o.number == HV_ACCEPTED && r.outcome.number == HV_ACCEPTED, what, o.number);
@@ -382,7 +391,7 @@ static void moves(void)
     move_of(&f, HV_CLONE, 0, 3, 0, 2, "moves of a clone");
     move_of(&f, HV_READ_WRITE_OPEN, 0, 0, 0, 3, "a move to the bound");
     move_of(&f, HV_READ_WRITE_OPEN, 0, 0, 0, 3, "a level that has settled");
-    expect(hv_enforce_at(&f, HV_READ_OPEN, 0, 2, 0).number == HV_DENIED && f.moves[0] == 3, "a refused call at the bound", f.moves[0]);
+    expect(hv_enforce_at(&f, (hv_call){HV_READ_OPEN, 0, 2, 0, 0}).number == HV_DENIED && f.moves[0] == 3, "a refused call at the bound", f.moves[0]);
     move_of(&f, HV_SET_LEVEL, 3, 0, 0, 2, "set-level");
     move_of(&f, HV_TERMINATE, 3, 0, 0, 0, "moves after terminate");
     move_of(&f, HV_LOGIN, 3, 0, 1, 0, "moves at a trusted user's login");
@@ -399,8 +408,8 @@ static void moves(void)
 /* A call by value and where the facility is: both give the number, and process p then has these labels. */
 static void labels_of(hv_facility *f, const uint8_t c[4], uint8_t number, hv_label current, hv_label readmark, hv_label writemark, const char *what)
 {
-    hv_enforced r = hv_enforce(*f, c[0], c[1], c[2], c[3]);
-    hv_outcome o = hv_enforce_at(f, c[0], c[1], c[2], c[3]);
+    hv_enforced r = hv_enforce(*f, call_of(c));
+    hv_outcome o = hv_enforce_at(f, call_of(c));
     hv_process_record p = hv_process(*f, c[1]);
     expect(o.number == number && r.outcome.number == number, what, o.number);
     expect(same_facility(f, &r.facility), what, c[1]);
@@ -505,7 +514,7 @@ static void account(void)
     for (size_t k = 0; k < CALLS; k++) {
         uint8_t *c = calls[k];
         if (k >= GIVEN) memcpy(c, (uint8_t[4]){below(22), below(3), below(6), below(4)}, sizeof calls[k]);
-        a = hv_account_step(a, c[0], c[1], c[2], c[3], hv_enforce_at(&f, c[0], c[1], c[2], c[3]).number == HV_ACCEPTED);
+        a = hv_account_step(a, call_of(c), hv_enforce_at(&f, call_of(c)).number == HV_ACCEPTED);
         for (int i = 0; (k + 1 == GIVEN || (k + 1) % ASKED == 0) && i < SOME * SOME; i++) {
             uint8_t x = (uint8_t)(i / SOME), y = (uint8_t)(i % SOME);
             hv_held h = hv_holds(projects, sizeof projects, calls[0], (k + 1) * sizeof calls[k], x, y);
@@ -552,7 +561,7 @@ static void reasons(const hv_facility *before, const hv_facility *after, const u
 {
     static const hv_failed none;
     uint8_t out[2][HV_WHY_MOST + 1], cut[HV_WHY_MOST + 1];
-    hv_failed w = hv_why_at(before, c[0], c[1], c[2], c[3]), v = hv_why(*before, c[0], c[1], c[2], c[3]), later = hv_why_at(after, c[0], c[1], c[2], c[3]);
+    hv_failed w = hv_why_at(before, call_of(c)), v = hv_why(*before, call_of(c)), later = hv_why_at(after, call_of(c));
     bool refused = o.number == HV_DENIED || o.number == HV_UNDEFINED_ANSWER, mac = w.fixed || w.clearance || w.writemark || w.readmark || w.receiver;
     expect(memcmp(&w, &v, sizeof w) == 0, "reasons both ways, request", c[0]);
     expect(!refused || memcmp(&w, &later, sizeof w) == 0, "reasons after the call, request", c[0]);
@@ -560,12 +569,12 @@ static void reasons(const hv_facility *before, const hv_facility *after, const u
     expect(!refused || (w.unset == (o.mac == HV_UNDEFINED) && mac == (o.mac == HV_NOT_GRANTED)), "reasons of MAC, request", c[0]);
     expect(!refused || (w.nocategory == (o.fc == HV_UNDEFINED) && w.category == (o.fc == HV_NOT_GRANTED)), "reasons of FC, request", c[0]);
     expect(!refused || (w.datatype == (o.sim == HV_NOT_GRANTED) && (w.flag != 0) == (o.ff == HV_NOT_GRANTED)), "reasons of SIM and FF, request", c[0]);
-    size_t n = hv_why_words_at(before, c[0], c[1], c[2], c[3], out[0], sizeof out[0]), m = hv_why_words(*before, c[0], c[1], c[2], c[3], out[1], sizeof out[1]);
+    size_t n = hv_why_words_at(before, call_of(c), out[0], sizeof out[0]), m = hv_why_words(*before, call_of(c), out[1], sizeof out[1]);
     expect(n == m && n <= HV_WHY_MOST && memcmp(out[0], out[1], n) == 0 && (n > 0) == refused, "reasons in words, request", c[0]);
     memset(cut, '?', sizeof cut);
-    m = hv_why_words_at(before, c[0], c[1], c[2], c[3], cut, n / 2);
+    m = hv_why_words_at(before, call_of(c), cut, n / 2);
     expect(m == n / 2 && memcmp(cut, out[0], m) == 0 && cut[m] == '?', "reasons in words cut off, request", c[0]);
-    expect(hv_why_words(*before, c[0], c[1], c[2], c[3], NULL, 0) == 0, "no buffer for reasons, request", c[0]);
+    expect(hv_why_words(*before, call_of(c), NULL, 0) == 0, "no buffer for reasons, request", c[0]);
 }
 
 /* The same calls by value and where the facility is: outcome and facility are the same, and the paddings stay. */
@@ -575,9 +584,9 @@ static void both_ways(hv_facility f)
     for (int k = 0; k < 4000; k++) {
         uint8_t c[4] = {below(23), below(34), below(130), below(18)};
         if (c[0] == HV_SET_LEVEL && below(2)) c[2] = below(4);   /* a set that there is */
-        hv_outcome q = hv_query_at(&g, c[0], c[1], c[2], c[3]);
-        hv_outcome o = hv_enforce_at(&g, c[0], c[1], c[2], c[3]);
-        hv_enforced e = hv_enforce(f, c[0], c[1], c[2], c[3]);
+        hv_outcome q = hv_query_at(&g, call_of(c));
+        hv_outcome o = hv_enforce_at(&g, call_of(c));
+        hv_enforced e = hv_enforce(f, call_of(c));
         expect(memcmp(&o, &e.outcome, sizeof o) == 0 && memcmp(&q, &o, sizeof o) == 0, "outcome both ways, request", c[0]);
         expect(same_facility(&g, &e.facility), "facility both ways, request", c[0]);
         expect(same_paddings(&g, &f), "padding", c[0]);
@@ -601,6 +610,45 @@ static void blocks(hv_facility f)
         size_t n = hv_put_block_at(&g, first, calls, length, out[1], room);
         expect(n == p.length && memcmp(out[0], out[1], sizeof out[0]) == 0, "lines both ways, room", (int)room);
         expect(same_facility(&g, &p.facility), "facility after a block, room", (int)room);
+    }
+}
+
+/* Every function that takes a call, at a seat that has no process: one number, and nothing else of the call counts. */
+static void at_no_seat(const hv_facility *f, hv_call c, hv_account a)
+{
+    static const hv_failed none;
+    static uint8_t out[HV_WORDS_ROOM];
+    uint8_t number = c.request > HV_LOGIN ? HV_NO_REQUEST : HV_NO_PROCESS_NUMBER;
+    hv_facility g = *f;
+    hv_outcome q = hv_query_at(f, c), o = hv_enforce_at(&g, c), v = hv_query(*f, c);
+    hv_enforced e = hv_enforce(*f, c);
+    hv_failed w = hv_why(*f, c), w_at = hv_why_at(f, c);
+    hv_account b = hv_account_step(a, c, false);
+    hv_printed p = hv_put_words(*f, 1, c, out);
+    expect(q.number == number && o.number == number && v.number == number && e.outcome.number == number, "number at a seat", c.seat);
+    expect(memcmp(&g, f, sizeof g) == 0 && same_facility(&e.facility, f) && same_facility(&p.facility, f), "facility at a seat", c.seat);
+    expect(memcmp(&w, &none, sizeof w) == 0 && memcmp(&w_at, &none, sizeof w) == 0, "reasons at a seat", c.seat);
+    expect(hv_why_words(*f, c, out, HV_WHY_MOST) == 0 && hv_why_words_at(f, c, out, HV_WHY_MOST) == 0, "reasons in words at a seat", c.seat);
+    expect(a.next == b.next && memcmp(a.objects, b.objects, sizeof a.objects) == 0 && memcmp(a.processes, b.processes, sizeof a.processes) == 0,
+           "account at a seat", c.seat);
+}
+
+/* Each field of a call through the library: a struct does what its four bytes do in a list, and at another seat nothing. */
+static void call_fields(hv_facility f)
+{
+    uint8_t line[HV_LINE_MOST + 1];
+    for (int k = 0; k < 2000; k++) {
+        uint8_t c[4] = {below(23), below(34), below(130), below(18)};
+        int number = -1;
+        hv_facility g = f, h = f;
+        line[hv_put_block_at(&g, 1, c, sizeof c, line, HV_LINE_MOST)] = 0;
+        hv_outcome o = hv_enforce_at(&h, call_of(c));
+        expect(sscanf((const char *)line, "%*d %*d %*d %*d %*d %d", &number) == 1 && number == o.number, "number of four bytes, request", c[0]);
+        expect(memcmp(&g, &h, sizeof g) == 0, "facility after four bytes, request", c[0]);
+        hv_call other = call_of(c);
+        other.seat = (uint8_t)(1 + below(255));
+        if (k % 20 == 0) at_no_seat(&f, other, hv_account_start(f));
+        f = g;
     }
 }
 
@@ -655,6 +703,7 @@ int main(void)
         fields(f);
         handed_back(f);
         both_ways(likely());
+        call_fields(likely());
         blocks(likely());
         flags(likely());
     }

@@ -36,29 +36,29 @@ static const char *label_words(hv_label label, char out[16])
 }
 
 /* Whether the target of a call is an object. */
-static bool has_object(uint8_t request, uint8_t extra)
+static bool has_object(hv_call c)
 {
-    switch (request) {
+    switch (c.request) {
     case HV_CLONE: case HV_SEND_SIGNAL: case HV_SET_LEVEL: case HV_TERMINATE: case HV_LOGIN: return false;
-    case HV_CREATE: return extra == HV_FILE || extra == HV_DIRECTORY;
+    case HV_CREATE: return c.extra == HV_FILE || c.extra == HV_DIRECTORY;
     default: return true;
     }
 }
 
 /* What a refusal was about: the conditions that failed, the object, and the clearance of the user who owns the process. The refused call has changed none
  * of them. Where they are of the process alone, its marks or its fixed level, a fresh window of the same user may do what this one may not. */
-static void say_why(const hv_facility *f, uint8_t request, uint8_t process, uint8_t target, uint8_t extra)
+static void say_why(const hv_facility *f, hv_call c)
 {
     char a[16];
     uint8_t why[HV_WHY_MOST], kind[HV_WORD_MOST];
-    size_t n = hv_why_words_at(f, request, process, target, extra, why, sizeof why);
-    hv_failed failed = hv_why_at(f, request, process, target, extra);
-    uint8_t owner = hv_process_at(f, process).owner;
+    size_t n = hv_why_words_at(f, c, why, sizeof why);
+    hv_failed failed = hv_why_at(f, c);
+    uint8_t owner = hv_process_at(f, c.process).owner;
     printf("%.*s\n", (int)n, (const char *)why);
-    if (has_object(request, extra)) {
-        hv_object_record t = hv_object_at(f, target);
+    if (has_object(c)) {
+        hv_object_record t = hv_object_at(f, c.target);
         size_t length = hv_kind_words(t.kind, kind, sizeof kind);
-        printf("    object %d: %.*s, level %s\n", target, (int)length, (const char *)kind, t.label.level == HV_UNSET ? "unset" : label_words(t.label, a));
+        printf("    object %d: %.*s, level %s\n", c.target, (int)length, (const char *)kind, t.label.level == HV_UNSET ? "unset" : label_words(t.label, a));
     }
     printf("    user %d: clearance %s\n", owner, label_words(hv_user_at(f, owner).clearance, a));
     if (!(failed.unset || failed.clearance || failed.receiver || failed.nocategory || failed.category || failed.datatype || failed.flag != 0))
@@ -75,14 +75,14 @@ static void say_process(const hv_facility *f, uint8_t process)
 }
 
 /* A call, and what it came to. Only where it is accepted may the window do what it asked for. */
-static void call(hv_facility *f, const char *what, uint8_t request, uint8_t process, uint8_t target, uint8_t extra)
+static void call(hv_facility *f, const char *what, hv_call c)
 {
     uint8_t number[HV_WORD_MOST];
-    hv_outcome o = hv_enforce_at(f, request, process, target, extra);
+    hv_outcome o = hv_enforce_at(f, c);
     size_t length = hv_number_words(o.number, number, sizeof number);
     printf("%s: %d %.*s", what, o.number, (int)length, (const char *)number);
-    if (o.number == HV_ACCEPTED) say_process(f, process);
-    else if (o.number == HV_DENIED || o.number == HV_UNDEFINED_ANSWER) say_why(f, request, process, target, extra);
+    if (o.number == HV_ACCEPTED) say_process(f, c.process);
+    else if (o.number == HV_DENIED || o.number == HV_UNDEFINED_ANSWER) say_why(f, c);
     else printf("\n");
 }
 
@@ -107,20 +107,20 @@ int main(void)
         printf("set-up refused with %d at record %d\n", r.number, r.index);
         return 1;
     }
-    call(&f, "user 0 logs in as process 0", HV_LOGIN, 0, 0, 0);
-    call(&f, "opens the hull lines for reading", HV_READ_OPEN, 0, HULL_LINES, 0);
-    call(&f, "opens the notes for writing", HV_WRITE_OPEN, 0, NOTES, 0);
-    call(&f, "makes a file in the yard folder", HV_CREATE, 0, YARD_FOLDER, HV_FILE);
-    call(&f, "opens the badge list for writing", HV_WRITE_OPEN, 0, BADGE_LIST, 0);
-    call(&f, "user 1 logs in as process 1", HV_LOGIN, 1, 0, 1);
-    call(&f, "opens the hull lines for reading", HV_READ_OPEN, 1, HULL_LINES, 0);
-    call(&f, "opens the released sheet for reading", HV_READ_OPEN, 1, SHEET, 0);
-    call(&f, "opens the released sheet for writing", HV_WRITE_OPEN, 1, SHEET, 0);
-    call(&f, "makes a file in the released drawings", HV_CREATE, 1, RELEASED_DRAWINGS, HV_FILE);
-    call(&f, "user 2 logs in as process 2", HV_LOGIN, 2, 0, 2);
-    call(&f, "opens the tug's frames for reading", HV_READ_OPEN, 2, TUG_FRAMES, 0);
-    call(&f, "opens the ferry's frames for reading", HV_READ_OPEN, 2, FERRY_FRAMES, 0);
-    call(&f, "signals process 0", HV_SEND_SIGNAL, 2, 0, 0);
+    call(&f, "user 0 logs in as process 0", (hv_call){HV_LOGIN, 0, 0, 0, 0});
+    call(&f, "opens the hull lines for reading", (hv_call){HV_READ_OPEN, 0, HULL_LINES, 0, 0});
+    call(&f, "opens the notes for writing", (hv_call){HV_WRITE_OPEN, 0, NOTES, 0, 0});
+    call(&f, "makes a file in the yard folder", (hv_call){HV_CREATE, 0, YARD_FOLDER, HV_FILE, 0});
+    call(&f, "opens the badge list for writing", (hv_call){HV_WRITE_OPEN, 0, BADGE_LIST, 0, 0});
+    call(&f, "user 1 logs in as process 1", (hv_call){HV_LOGIN, 1, 0, 1, 0});
+    call(&f, "opens the hull lines for reading", (hv_call){HV_READ_OPEN, 1, HULL_LINES, 0, 0});
+    call(&f, "opens the released sheet for reading", (hv_call){HV_READ_OPEN, 1, SHEET, 0, 0});
+    call(&f, "opens the released sheet for writing", (hv_call){HV_WRITE_OPEN, 1, SHEET, 0, 0});
+    call(&f, "makes a file in the released drawings", (hv_call){HV_CREATE, 1, RELEASED_DRAWINGS, HV_FILE, 0});
+    call(&f, "user 2 logs in as process 2", (hv_call){HV_LOGIN, 2, 0, 2, 0});
+    call(&f, "opens the tug's frames for reading", (hv_call){HV_READ_OPEN, 2, TUG_FRAMES, 0, 0});
+    call(&f, "opens the ferry's frames for reading", (hv_call){HV_READ_OPEN, 2, FERRY_FRAMES, 0, 0});
+    call(&f, "signals process 0", (hv_call){HV_SEND_SIGNAL, 2, 0, 0, 0});
     supervisor(&f);
     return 0;
 }

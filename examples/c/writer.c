@@ -119,10 +119,10 @@ static hv_facility fresh(int users, int objects)
 /* The facility after logins and calls of any request, among them creates and deletes. */
 static hv_facility after_calls(hv_facility f, int calls)
 {
-    for (uint8_t p = 0; p < 4 && p < f.users; p++) hv_enforce_at(&f, HV_LOGIN, p, 0, p);
+    for (uint8_t p = 0; p < 4 && p < f.users; p++) hv_enforce_at(&f, (hv_call){HV_LOGIN, p, 0, p, 0});
     for (int k = 0; k < calls; k++) {
         uint8_t request = below(3) == 0 ? HV_DELETE : below(3) == 0 ? HV_CREATE : below(22);
-        hv_enforce_at(&f, request, below(4), below(HV_OBJECTS), below(4));
+        hv_enforce_at(&f, (hv_call){request, below(4), below(HV_OBJECTS), below(4), 0});
     }
     return f;
 }

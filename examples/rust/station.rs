@@ -14,6 +14,17 @@ pub struct Reading {
     pub index: u16,
 }
 
+/// A call, with the seat of its process, which is 0.
+#[repr(C)]
+#[derive(Clone, Copy)]
+pub struct Call {
+    pub request: u8,
+    pub process: u8,
+    pub target: u8,
+    pub extra: u8,
+    pub seat: u8,
+}
+
 #[repr(C)]
 #[derive(Clone, Copy, Debug, PartialEq)]
 pub struct Outcome {
@@ -48,12 +59,12 @@ pub struct Process {
 
 extern "C" {
     fn hv_read_setup(bytes: *const u8, length: usize) -> Reading;
-    fn hv_query_at(f: *const Facility, request: u8, process: u8, target: u8, extra: u8) -> Outcome;
-    fn hv_enforce_at(f: *mut Facility, request: u8, process: u8, target: u8, extra: u8) -> Outcome;
+    fn hv_query_at(f: *const Facility, call: Call) -> Outcome;
+    fn hv_enforce_at(f: *mut Facility, call: Call) -> Outcome;
     fn hv_process(f: Facility, process: u8) -> Process;
     fn hv_most_moves(f: Facility, user: u8) -> u32;
     fn hv_refusals(f: Facility, user: u8) -> u32;
-    fn hv_why_words_at(f: *const Facility, request: u8, process: u8, target: u8, extra: u8, out: *mut u8, length: usize) -> usize;
+    fn hv_why_words_at(f: *const Facility, call: Call, out: *mut u8, length: usize) -> usize;
 }
 
 const LOGIN: u8 = 21;
@@ -95,12 +106,12 @@ impl Facility {
         if r.number == 0 { Ok(r.facility) } else { Err((r.number, r.index)) }
     }
 
-    pub fn query(&self, request: u8, process: u8, target: u8, extra: u8) -> Outcome {
-        unsafe { hv_query_at(self, request, process, target, extra) }
+    pub fn query(&self, call: Call) -> Outcome {
+        unsafe { hv_query_at(self, call) }
     }
 
-    pub fn enforce(&mut self, request: u8, process: u8, target: u8, extra: u8) -> Outcome {
-        unsafe { hv_enforce_at(self, request, process, target, extra) }
+    pub fn enforce(&mut self, call: Call) -> Outcome {
+        unsafe { hv_enforce_at(self, call) }
     }
 
     pub fn process(&self, process: u8) -> Process {
@@ -113,9 +124,9 @@ impl Facility {
     }
 
     /// The conditions that failed where this call is refused with 12 or 13, in words; else nothing.
-    pub fn why(&self, request: u8, process: u8, target: u8, extra: u8) -> String {
+    pub fn why(&self, call: Call) -> String {
         let mut out = [0; WHY_MOST];
-        let length = unsafe { hv_why_words_at(self, request, process, target, extra, out.as_mut_ptr(), out.len()) };
+        let length = unsafe { hv_why_words_at(self, call, out.as_mut_ptr(), out.len()) };
         String::from_utf8_lossy(&out[..length]).into_owned()
     }
 
@@ -142,9 +153,10 @@ fn main() {
         ("open the frames of project b for reading", READ_OPEN, 5),
         ("open the frames of project b for writing", WRITE_OPEN, 5),
     ] {
-        let foretold = f.query(request, 0, target, 0);
-        let why = f.why(request, 0, target, 0);
-        let outcome = f.enforce(request, 0, target, 0);
+        let call = Call { request, process: 0, target, extra: 0, seat: 0 };
+        let foretold = f.query(call);
+        let why = f.why(call);
+        let outcome = f.enforce(call);
         assert_eq!(foretold, outcome);
         let p = f.process(0);
         println!(

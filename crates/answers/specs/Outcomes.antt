@@ -1,13 +1,14 @@
 -- The paper's numbers and values of what a call and a set-up come to.
 pub use Rattle.answers.specs.declared.Answers.{Answers}
 pub use Rattle.answers.specs.declared.Outcome.{Outcome}
+pub use Rattle.answers.specs.declared.CallOutcome.{CallOutcome}
 pub use Rattle.answers.specs.declared.SetupOutcome.{SetupOutcome}
 pub use Rattle.answers.specs.declared.WriteOutcome.{WriteOutcome}
 use Prim.Native.Nat.{ℕ}
 use mathlib.Core.Bool.{Bool, cond}
 use lib.Dec.{eqb}
 use Rattle.labels.specs.Decisions.{_or_}
-use Rattle.answers.specs.Answers.{NotCared, Answer, combineAll}
+use Rattle.answers.specs.Answers.{NotCared, Answer, code, combineAll}
 use Rattle.answers.specs.declared.Outcome.the-variants.{Accepted, Denied, Refused}
 use Rattle.answers.specs.declared.SetupOutcome.the-variants.{Accepted as SetupAccepted, Refused as SetupRefused}
 use Rattle.answers.specs.declared.WriteOutcome.the-variants.{Written, NoRoom}
@@ -46,6 +47,19 @@ abbrev pub objectNumberOf : Outcome → ℕ
 objectNumberOf (Accepted a o) = o
 objectNumberOf (Denied a n) = noObject
 objectNumberOf (Refused n) = noObject
+
+-- an outcome as C is given it: refusal number, the answers' numbers, and the object
+abbrev pub outcomeNumbers : Outcome → CallOutcome
+outcomeNumbers o =
+    record {
+      number = numberOf o;
+      mac = code (answersOf o .mac);
+      fc = code (answersOf o .fc);
+      sim = code (answersOf o .sim);
+      combined = code (answersOf o .combined);
+      object = objectNumberOf o;
+      ff = code (answersOf o .ff);
+    }
 
 -- a set-up's number and index
 abbrev pub setupNumber : SetupOutcome → ℕ

@@ -1,7 +1,7 @@
 // What a module answers, how answers are combined, and what a call, reading a set-up and writing one out come to.
 ghost use mathlib.Core.Path.{_≡_};
 ghost use Rattle.answers.specs.Answers.{code, combine, isNotGranted, isUndefined, grant};
-ghost use Rattle.answers.specs.Outcomes.{answersFrom, outcomeOf, numberOf, answersOf, objectNumberOf, denies};
+ghost use Rattle.answers.specs.Outcomes.{answersFrom, outcomeOf, numberOf, answersOf, objectNumberOf, outcomeNumbers, denies};
 
 // The object number that a call has which gives none.
 pub const NO_OBJECT: u8 = 255;
@@ -176,4 +176,37 @@ pub fn is_denial(number: u8) -> bool
     ensures { λ r. ⌜ r ≡ denies number ⌝ }
 {
     (number == 12) | (number == 13)
+}
+
+// A call's refusal number, the answers of the modules and their combination, and the object number that an accepted create gave (else 255).
+#[repr(C)]
+pub struct CallOutcome {
+    pub number: u8,
+    pub mac: u8,
+    pub fc: u8,
+    pub sim: u8,
+    pub combined: u8,
+    pub object: u8,
+    pub ff: u8,
+}
+
+// An outcome by its numbers, as C is given it.
+pub fn outcome_numbers(o: Outcome) -> CallOutcome
+    ensures { λ r. ⌜ r ≡ outcomeNumbers o ⌝ }
+{
+    let answers = o.answers();
+    let mac = answers.mac;
+    let fc = answers.fc;
+    let sim = answers.sim;
+    let ff = answers.ff;
+    let combined = answers.combined;
+    CallOutcome {
+        number: o.number(),
+        mac: mac.code(),
+        fc: fc.code(),
+        sim: sim.code(),
+        combined: combined.code(),
+        object: o.object(),
+        ff: ff.code(),
+    }
 }

@@ -11,7 +11,7 @@ use state::Object;
 use state::Process;
 
 // The first number that is no request.
-const NO_REQUEST: u8 = requests::LAST + 1;
+pub const NO_REQUEST: u8 = requests::LAST + 1;
 
 // What a created object inherits by: a file or a directory has the flag and the directory t that it is made in as parent.
 fn first_flags(kind: u8) -> u8
@@ -34,7 +34,7 @@ fn first_parent(kind: u8, t: u8) -> u8
 }
 
 // The object that create enters.
-fn created(r: Process, kind: u8, t: u8) -> Object
+pub fn created(r: Process, kind: u8, t: u8) -> Object
     ensures { λ x. ⌜ x ≡ created r kind t ⌝ }
 {
     let label = r.current;

@@ -1,2 +1,3 @@
--- Facts that several proofs cite.
+-- Facts that several proofs cite, and proofs of statements.
+pub mod Seats
 pub mod Why

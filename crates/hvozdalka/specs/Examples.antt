@@ -1,17 +1,20 @@
 -- What C is given, computed: no two fields have the same value in each example, so that none can stand for another.
 use Prim.Native.Nat.{ℕ}
 use mathlib.Core.Path.{_≡_, refl}
-use mathlib.Core.List.{List, [], _∷_, map}
+use mathlib.Core.List.{List, [], _∷_, _++_, map}
 use Rattle.answers.specs.declared.Answer.the-variants.{NotCared, Granted, NotGranted, Undefined}
 use Rattle.answers.specs.declared.Outcome.{Outcome}
 use Rattle.answers.specs.declared.Outcome.the-variants.{Accepted, Denied, Refused}
-use Rattle.answers.specs.Outcomes.{answersFrom}
+use Rattle.answers.specs.Outcomes.{answersFrom, numberOf, outcomeNumbers}
 use Rattle.state.specs.declared.Facility.{Facility}
 use Rattle.state.specs.State.{blank, objectsIn, processesIn, putMarks, usersIn, with}
-use Rattle.rules.specs.Computed.{everything}
-use Rattle.hvozdalka.specs.declared.CallOutcome.{CallOutcome}
+use Rattle.rules.specs.Calls.{after, query}
+use Rattle.rules.specs.Computed.{everything, call, switches, user}
+use Rattle.rules.specs.Setup.{fresh}
+use Rattle.answers.specs.declared.CallOutcome.{CallOutcome}
+use Rattle.hvozdalka.specs.declared.SeatedCall.{SeatedCall}
 use Rattle.hvozdalka.specs.declared.Summary.{Summary}
-use Rattle.hvozdalka.specs.Numbers.{openMarks, outcomeNumbers, summaryOf}
+use Rattle.hvozdalka.specs.Numbers.{callOf, numberAt, openMarks, summaryOf}
 
 -- the fields of an outcome, in the order of the header
 abbrev outcomeFields : CallOutcome → List ℕ
@@ -50,3 +53,27 @@ summary-given = refl
 pub marks-given : map (λ p. map (openMarks marked p) (0 ∷ 1 ∷ [])) (0 ∷ 1 ∷ []) ≡ (0 ∷ 1 ∷ []) ∷ (2 ∷ 3 ∷ []) ∷ []
 unfolding everything openMarks
 marks-given = refl
+
+-- calls of a desktop: request r at a seat
+abbrev handed : ℕ → ℕ → SeatedCall
+handed r seat = record { request = r; process = 0; target = 0; extra = 0; seat = seat }
+
+-- the call of seat 0 is that of its four bytes; at another seat there is no process, whatever the number
+pub calls-handed :
+    callOf (record { request = 21; process = 7; target = 5; extra = 3; seat = 0 })
+    ∷ map (λ s. callOf (record { request = 21; process = 7; target = 5; extra = 3; seat = s })) (1 ∷ 255 ∷ [])
+    ≡ call 21 7 5 3 ∷ call 21 255 5 3 ∷ call 21 255 5 3 ∷ []
+unfolding everything callOf numberAt
+calls-handed = refl
+
+-- a login at seat 0 of a facility with a user is accepted, and of other seats refused with 2; a request that is none with 1 at every seat
+pub seats-numbered :
+    map (λ r. map (λ s. numberOf (query (fresh (switches 1 1 1 ++ user 1 0 0)) (callOf (handed r s)))) (0 ∷ 1 ∷ 255 ∷ [])) (21 ∷ 22 ∷ [])
+    ≡ (0 ∷ 2 ∷ 2 ∷ []) ∷ (1 ∷ 1 ∷ 1 ∷ []) ∷ []
+unfolding everything callOf numberAt
+seats-numbered = refl
+
+-- and nothing changes then, whatever the facility
+pub seats-unchanged : (f : Facility) → map (λ s. after f (callOf (handed 21 s))) (1 ∷ 255 ∷ []) ≡ f ∷ f ∷ []
+unfolding everything callOf numberAt
+seats-unchanged f = refl

@@ -1,16 +1,16 @@
 -- Outcomes as C is given them: the paper's numbers.
 use Prim.Native.Nat.{ℕ}
+use mathlib.Core.Bool.{cond}
 use mathlib.Core.List.{List}
 use mathlib.Core.Path.{_≡_, sym, _∙_, ap}
+use lib.Dec.{eqb}
 use Rattle.state.specs.declared.Call.{Call}
 use Rattle.state.specs.declared.Facility.{Facility}
-use Rattle.answers.specs.declared.Outcome.{Outcome}
 use Rattle.answers.specs.declared.SetupOutcome.{SetupOutcome}
 use Rattle.answers.specs.declared.WriteOutcome.{WriteOutcome}
 use Rattle.state.specs.State.{opensOf}
 use Rattle.opens.specs.Opens.{addModes}
-use Rattle.answers.specs.Answers.{code}
-use Rattle.answers.specs.Outcomes.{numberOf, answersOf, objectNumberOf, setupNumber, setupIndex, writeNumber, writeLength}
+use Rattle.answers.specs.Outcomes.{outcomeNumbers, setupNumber, setupIndex, writeNumber, writeLength}
 use Rattle.rules.specs.declared.Enforced.{Enforced}
 use Rattle.rules.specs.declared.Reading.{Reading}
 use Rattle.rules.specs.Lines.{callsOf}
@@ -18,29 +18,24 @@ use Rattle.rules.specs.Matter.{holds}
 use Rattle.rules.specs.Setup.{readSetup}
 use Rattle.history.specs.Replayed.{replayed}
 use Rattle.hvozdalka.specs.declared.Held.{Held}
-use Rattle.hvozdalka.specs.declared.CallOutcome.{CallOutcome}
 use Rattle.hvozdalka.specs.declared.CallEnforced.{CallEnforced}
 use Rattle.hvozdalka.specs.declared.SetupReading.{SetupReading}
 use Rattle.hvozdalka.specs.declared.SetupNumbers.{SetupNumbers}
 use Rattle.hvozdalka.specs.declared.SetupWriting.{SetupWriting}
+use Rattle.hvozdalka.specs.declared.SeatedCall.{SeatedCall}
 use Rattle.hvozdalka.specs.declared.Summary.{Summary}
 
--- the call of four bytes
-abbrev pub callOf : ℕ → ℕ → ℕ → ℕ → Call
-callOf r p t e = record { request = r; process = p; target = t; extra = e }
+-- a process number that is none
+abbrev pub noSuchProcess : ℕ
+noSuchProcess = 255
 
--- refusal number, the answers' numbers, and the object
-abbrev pub outcomeNumbers : Outcome → CallOutcome
-outcomeNumbers o =
-    record {
-      number = numberOf o;
-      mac = code (answersOf o .mac);
-      fc = code (answersOf o .fc);
-      sim = code (answersOf o .sim);
-      combined = code (answersOf o .combined);
-      object = objectNumberOf o;
-      ff = code (answersOf o .ff);
-    }
+-- the process that number p means at a seat: there is one seat, 0, and another has no process
+unfoldable pub numberAt : ℕ → ℕ → ℕ
+numberAt seat p = cond (eqb seat 0) p noSuchProcess
+
+-- the call that C hands in: of a seat that has no process question 2 refuses it, where question 1 does not come first
+unfoldable pub callOf : SeatedCall → Call
+callOf c = record { request = c .request; process = numberAt (c .seat) (c .process); target = c .target; extra = c .extra }
 
 abbrev pub enforcedNumbers : Enforced → CallEnforced
 enforcedNumbers e = record { facility = e .facility; outcome = outcomeNumbers (e .outcome) }
@@ -81,4 +76,4 @@ openMarks f p t = addModes (opensOf f p t) 0
 
 -- the version of what C is given: one more with each change of the header that callers see
 abbrev pub version : ℕ
-version = 7
+version = 8

@@ -15,9 +15,9 @@ use Rattle.in_place.specs.Layout.{facilityOf, theOpens, thePadding, last
 use Rattle.in_place.specs.Layout.{theCategories, theDatatypes, theRunnings, theOwners, theCurrents, theReadmarks, theWritemarks, theAutomatics}
 use Rattle.in_place.specs.Layout.{theFf, theFlags, theParents, theMoves, theClearancesets, theSets, theCurrentsets, theReadsets, theWritesets}
 use Rattle.in_place.specs.Layout.{theLastPadding}
-use Rattle.in_place.proofs.Stores.{store-inside, stored, before, length-store}
+use Rattle.in_place.proofs.Stored.{store-inside, stored, before, length-store}
 use Rattle.in_place.specs.Fields.{Fields, putField, BecomesUnique, countsPut, usersPut, objectsPut, processesPut}
-use Rattle.in_place.proofs.Changes.{field-length}
+use Rattle.in_place.proofs.Changed.{field-length}
 use Rattle.in_place.proofs.Words.{same-words}
 use Rattle.labels.specs.Decisions.{at}
 use Rattle.in_place.proofs.BytesOfParts.{byte-in, byte-past}

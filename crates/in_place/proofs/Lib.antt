@@ -1,6 +1,7 @@
 -- Laws that only this crate's proofs cite, and proofs of its statements.
-pub mod Stores
+pub mod Stored
 pub mod BytesOfParts
 pub mod Words
-pub mod Changes
+pub mod Changed
 pub mod Fields
+pub mod Seen

@@ -81,6 +81,11 @@ words-length l = length-build mostUsers (wordAt l)
 pub words-at : (l : List ℕ) (u : ℕ) → u < mostUsers → at (words l) u ≡ wordAt l u
 words-at l u h = at-build mostUsers (wordAt l) u h
 
+-- the number of user u, of its four bytes
+pub word-read : (l : List ℕ) (u a b c d : ℕ) → u < mostUsers → a ≡ at l (4 * u) → b ≡ at l (4 * u + 1) → c ≡ at l (4 * u + 2) → d ≡ at l (4 * u + 3)
+    → a + 256 * b + 65536 * c + 16777216 * d ≡ at (words l) u
+word-read l u a b c d h p q r s = (λ i. p i + 256 * q i + 65536 * r i + 16777216 * s i) ∙ sym (words-at l u h)
+
 pub words-stored : (l : List ℕ) (u a b c d n : ℕ) → length l ≡ 4 * mostUsers → u < mostUsers → a + 256 * b + 65536 * c + 16777216 * d ≡ n
     → words (four l (4 * u) a b c d) ≡ set (words l) u n
 words-stored l u a b c d n e h w =

@@ -3,15 +3,20 @@ use Prim.Native.Nat.{ℕ, zero, suc, _+_, _*_}
 use mathlib.Core.List.{List, [], _∷_}
 use lib.ListN.{take, drop}
 use Rattle.labels.specs.Decisions.{at}
-use Rattle.opens.specs.Opens.{build}
+use Rattle.opens.specs.Opens.{build, mostProcesses, mostObjects, mostOpens}
 use Rattle.state.specs.State.{mostUsers}
 use Rattle.state.specs.declared.Facility.{Facility}
+
+-- the bytes of a counter
+abbrev pub counterSize : ℕ
+counterSize = 4
 
 -- the sizes of the fields in order; the two of 3 bytes are padding
 abbrev pub sizes : List ℕ
 sizes =
-    1 ∷ 1 ∷ 1 ∷ 1 ∷ 16 ∷ 16 ∷ 16 ∷ 1 ∷ 128 ∷ 128 ∷ 128 ∷ 128 ∷ 128 ∷ 32 ∷ 32 ∷ 32 ∷ 32 ∷ 32 ∷ 32 ∷ 4096 ∷ 3 ∷ 64 ∷ 1 ∷ 128 ∷ 128
-    ∷ 32 ∷ 16 ∷ 128 ∷ 32 ∷ 32 ∷ 32 ∷ 3 ∷ []
+    1 ∷ 1 ∷ 1 ∷ 1 ∷ mostUsers ∷ mostUsers ∷ mostUsers ∷ 1 ∷ mostObjects ∷ mostObjects ∷ mostObjects ∷ mostObjects ∷ mostObjects
+    ∷ mostProcesses ∷ mostProcesses ∷ mostProcesses ∷ mostProcesses ∷ mostProcesses ∷ mostProcesses ∷ mostOpens ∷ 3 ∷ counterSize * mostUsers
+    ∷ 1 ∷ mostObjects ∷ mostObjects ∷ mostProcesses ∷ mostUsers ∷ mostObjects ∷ mostProcesses ∷ mostProcesses ∷ mostProcesses ∷ 3 ∷ []
 
 abbrev pub size : ℕ → ℕ
 size k = at sizes k

@@ -83,9 +83,33 @@ noKind =
       also = Nothing;
     }
 
--- the table, by byte 0
+-- byte 0 of a record
+abbrev pub switchesRecordKind : ℕ
+switchesRecordKind = 3
+
+abbrev pub userRecordKind : ℕ
+userRecordKind = 1
+
+abbrev pub objectRecordKind : ℕ
+objectRecordKind = 2
+
+-- the table, by byte 0: a row for each kind
+pub record KindRow : Type 0 where
+  pub byte : ℕ
+  pub rule : Kind
+
+abbrev pub kindRows : List KindRow
+kindRows =
+    record { byte = switchesRecordKind; rule = switchesKind }
+    ∷ record { byte = userRecordKind; rule = usersKind }
+    ∷ record { byte = objectRecordKind; rule = objectsKind } ∷ []
+
+abbrev pub kindAmong : ℕ → List KindRow → Kind
+kindAmong k [] = noKind
+kindAmong k (x ∷ xs) = cond (eqb k (x .byte)) (x .rule) (kindAmong k xs)
+
 unfoldable pub kindOf : ℕ → Kind
-kindOf k = cond (eqb k 3) switchesKind (cond (eqb k 1) usersKind (cond (eqb k 2) objectsKind noKind))
+kindOf k = kindAmong k kindRows
 
 abbrev pub placeOf : SetupRecord → ℕ
 placeOf r = (kindOf (r .kind)) .place
@@ -126,11 +150,12 @@ allowed past r = allowedBy (kindOf (r .kind)) r
 -- whether object n, the record of kind 2 with n of its kind before it, is among them and is a directory
 unfoldable pub directoryAmong : ℕ → List SetupRecord → Bool
 directoryAmong n [] = false
-directoryAmong n (q ∷ past) = cond (eqb (q .kind) 2 and eqb (countOf 2 past) n) (eqb (q .one) directoryKind) (directoryAmong n past)
+directoryAmong n (q ∷ past) =
+    cond (eqb (q .kind) objectRecordKind and eqb (countOf objectRecordKind past) n) (eqb (q .one) directoryKind) (directoryAmong n past)
 
 -- 19: is the parent of an object none, or the number plus 1 of an earlier directory?
 unfoldable pub parentFits : List SetupRecord → SetupRecord → Bool
-parentFits past r = asked (eqb (r .kind) 2) (eqb (r .six) 0 or directoryAmong (r .six - 1) past)
+parentFits past r = asked (eqb (r .kind) objectRecordKind) (eqb (r .six) 0 or directoryAmong (r .six - 1) past)
 
 -- the questions of one record, in order
 unfoldable pub recordNumber : List SetupRecord → SetupRecord → ℕ

@@ -16,9 +16,9 @@ use Rattle.state.specs.State.{Objects, objectsIn, objectOf, live, mostUsers, mo
 use Rattle.state.specs.State.{trustedUser, clearanceOf, labelOf, runs, opensOf, usersIn, processesFrom, with, allOff, blank}
 use Rattle.rules.specs.Calls.{ownerIn, accepted, query, after}
 use Rattle.rules.specs.Histories.{run, outcomes, Step, past, ownerAfter, currentOf, movesOf, movesBound}
-use Rattle.rules.specs.Requests.{Action, Class, lastRequest, actionOf, isAbsent, isNoCondition, isLogin, isCreate, inDirectory, needsObject}
+use Rattle.rules.specs.Requests.{Action, Class, lastKind, lastRequest, actionOf, isAbsent, isNoCondition, isLogin, isCreate, inDirectory, needsObject}
 use Rattle.rules.specs.Requests.{sendSignalRequest}
-use Rattle.rules.specs.Kinds.{SetupRecord, fits, room, allowed, parentFits, recordNumber}
+use Rattle.rules.specs.Kinds.{switchesRecordKind, userRecordKind, objectRecordKind, SetupRecord, fits, room, allowed, parentFits, recordNumber}
 use Rattle.rules.specs.Setup.{recordsIn, switchesEntered, userEntered, objectEntered, fresh, acceptedSetup, listed, every, usersOf, liveObjects}
 use Rattle.rules.specs.Setup.{newNumber, writtenObjects, setupBytes, Writing, writeSetup}
 use Rattle.rules.specs.FileFlags.{readOnly, noExecute, noDelete, searchOnly, addInherited, has, withoutNoDelete, flagsOf, parentOf, inherits}
@@ -34,9 +34,8 @@ pub record Refusals : Type 0 where
   -- refusals but 12 and 13 leave the counters too, and come with not-cared answers alone and object 255
   pub uncounted : (f : Facility) (c : Call) → accepted f c ≡ false → denies (number f c) ≡ false → after f c ≡ f
   pub unasked : (f : Facility) (c : Call) → accepted f c ≡ false → denies (number f c) ≡ false → query f c ≡ Refused (number f c)
-  -- 12 and 13 are counted, for the owner of the calling process alone, and there is no larger number
+  -- 12 and 13 are counted, for the owner of the calling process alone
   pub counts : (f : Facility) (c : Call) → denies (number f c) ≡ true → after f c ≡ counted f ((processOf f (c .process)) .owner)
-  pub largest : (f : Facility) (c : Call) → number f c ≤ 13
   -- the outcome has the call's number
   pub numbered : (f : Facility) (c : Call) → numberOf (query f c) ≡ number f c
 
@@ -87,7 +86,7 @@ passesTo9 k v c =
     and isRunning k (runsOf v)
     and isFree k (runsOf v)
     and asked (isLogin k) (ltb (c .extra) (v .users))
-    and asked (isCreate k) (leb (c .extra) 3)
+    and asked (isCreate k) (leb (c .extra) lastKind)
     and asked (needsObject k (c .extra)) (on (v .target .object .live))
     and asked (needsObject k (c .extra)) (not (isAbsent (classIn v c)))
     and asked (needsObject k (c .extra)) (asked (isNoCondition (classIn v c)) (openFor v c))
@@ -116,9 +115,9 @@ objectsEntered f = listed (f .entered) every (objectOf f)
 -- The fresh facility, by the bytes of the set-up (Proofs/FreshFacilities).
 pub record FreshFacilities : Type 0 where
   -- the switches are those of the one record of kind 3; user n and object n those of the record of kind 1, and 2, with n of its kind before it
-  pub switches : (s : List ℕ) → acceptedSetup s ≡ true → switchesOf (fresh s) ∷ [] ≡ map switchesEntered (ofKind 3 (recordsIn s))
-  pub users : (s : List ℕ) → acceptedSetup s ≡ true → usersOf (fresh s) ≡ map userEntered (ofKind 1 (recordsIn s))
-  pub objects : (s : List ℕ) → acceptedSetup s ≡ true → objectsEntered (fresh s) ≡ map objectEntered (ofKind 2 (recordsIn s))
+  pub switches : (s : List ℕ) → acceptedSetup s ≡ true → switchesOf (fresh s) ∷ [] ≡ map switchesEntered (ofKind switchesRecordKind (recordsIn s))
+  pub users : (s : List ℕ) → acceptedSetup s ≡ true → usersOf (fresh s) ≡ map userEntered (ofKind userRecordKind (recordsIn s))
+  pub objects : (s : List ℕ) → acceptedSetup s ≡ true → objectsEntered (fresh s) ≡ map objectEntered (ofKind objectRecordKind (recordsIn s))
   -- a refused set-up gives all switches off, and no user and no object
   pub refused : (s : List ℕ) → acceptedSetup s ≡ false → fresh s ≡ blank allOff
   -- no process runs, nothing is open, no refusal is counted
@@ -131,7 +130,7 @@ pub record UsersStay : Type 0 where
   pub switches : (s : List ℕ) (cs : List Call) → switchesOf (run (fresh s) cs) ≡ switchesOf (fresh s)
   pub users : (s : List ℕ) (cs : List Call) → usersOf (run (fresh s) cs) ≡ usersOf (fresh s)
 
--- "An object's level after a list is what the set-up and the rules give it; a deleted object keeps its last" (Proofs/Kept).
+-- "An object's level after a list is what the set-up and the rules give it; a deleted object keeps its last" (Proofs/LabelsStay).
 pub record LabelsStay : Type 0 where
   -- an object of the set-up has the label of its record
   pub entered : (s : List ℕ) (cs : List Call) (t : ℕ) → t < fresh s .entered → labelOf (run (fresh s) cs) t ≡ labelOf (fresh s) t

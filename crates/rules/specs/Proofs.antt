@@ -1,4 +1,5 @@
 -- The proofs of the theorems.
+pub mod Actions
 pub mod Passed
 pub mod Sound
 pub mod Leaves

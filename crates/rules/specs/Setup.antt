@@ -1,5 +1,6 @@
 -- "Set-up records": reading a set-up, and writing one out.
 pub use Rattle.rules.specs.Kinds.{SetupRecord, recordNumber}
+use Rattle.rules.specs.Kinds.{switchesRecordKind, userRecordKind, objectRecordKind}
 pub use Rattle.rules.specs.declared.Reading.{Reading}
 use Rattle.answers.specs.declared.SetupOutcome.the-variants.{Accepted, Refused}
 use Rattle.answers.specs.declared.WriteOutcome.the-variants.{Written, NoRoom}
@@ -13,14 +14,7 @@ use Rattle.labels.specs.Decisions.{_and_, at, on}
 use Rattle.state.specs.State.{Objects, objectsIn, objectIn, objectOf, userOf, live, switchesOf, allOff, addUser, addObject, blank}
 use Rattle.labels.specs.Labels.{label}
 
--- A record is 8 bytes, no header. Byte 0 is the kind: 3 switches, 1 user, 2 object (Kinds).
-abbrev pub isSwitches : SetupRecord → Bool
-isSwitches r = eqb (r .kind) 3
-
-abbrev pub isUserRecord : SetupRecord → Bool
-isUserRecord r = eqb (r .kind) 1
-
--- the records of the bytes s
+-- A record is 8 bytes, no header. Byte 0 is the kind (Kinds). The records of the bytes s:
 abbrev pub firstRecord : List ℕ → SetupRecord
 firstRecord s =
     record {
@@ -77,11 +71,24 @@ objectEntered r =
       parent = r .six;
     }
 
--- the facility with one record more
+-- what a record of each kind enters, a row for each
+pub record EnterRow : Type 0 where
+  pub byte : ℕ
+  pub enter : Facility → SetupRecord → Facility
+
+abbrev pub enterRows : List EnterRow
+enterRows =
+    record { byte = switchesRecordKind; enter = λ f r. blank (switchesEntered r) }
+    ∷ record { byte = userRecordKind; enter = λ f r. addUser f (userEntered r) }
+    ∷ record { byte = objectRecordKind; enter = λ f r. addObject f (objectEntered r) } ∷ []
+
+abbrev pub enterAmong : List EnterRow → Facility → SetupRecord → Facility
+enterAmong [] f r = f
+enterAmong (x ∷ xs) f r = cond (eqb (r .kind) (x .byte)) (x .enter f r) (enterAmong xs f r)
+
+-- the facility with one record more; one of no kind enters nothing
 unfoldable pub enterRecord : Facility → SetupRecord → Facility
-enterRecord f r =
-    cond (isSwitches r) (blank (switchesEntered r))
-    (cond (isUserRecord r) (addUser f (userEntered r)) (addObject f (objectEntered r)))
+enterRecord f r = enterAmong enterRows f r
 
 -- a refused set-up gives the fresh facility of one switches record with all off
 abbrev pub refusedSetup : ℕ → ℕ → Reading
@@ -117,12 +124,12 @@ acceptedSetup s = isAccepted ((readSetup s) .outcome)
 -- Writing out: exactly switches, users, live objects in order, with their parents by their new numbers.
 abbrev pub switchesRecord : Switches → SetupRecord
 switchesRecord s =
-    record { kind = 3; one = s .mac; two = s .fc; three = s .sim; four = s .ff; five = 0; six = 0; seven = 0 }
+    record { kind = switchesRecordKind; one = s .mac; two = s .fc; three = s .sim; four = s .ff; five = 0; six = 0; seven = 0 }
 
 abbrev pub userRecord : User → SetupRecord
 userRecord u =
     record {
-      kind = 1;
+      kind = userRecordKind;
       one = u .clearance .level;
       two = u .role;
       three = u .trusted;
@@ -135,7 +142,7 @@ userRecord u =
 abbrev pub objectRecord : Object → SetupRecord
 objectRecord o =
     record {
-      kind = 2;
+      kind = objectRecordKind;
       one = o .kind;
       two = o .label .level;
       three = o .category;

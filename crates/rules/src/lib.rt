@@ -66,6 +66,13 @@ pub const CONTROL_DATA_KIND: u8 = 3;
 
 pub const LAST_KIND: u8 = CONTROL_DATA_KIND;
 
+// The kinds of set-up records.
+pub const SWITCHES_RECORD: u8 = 3;
+
+pub const USER_RECORD: u8 = 1;
+
+pub const OBJECT_RECORD: u8 = 2;
+
 // The category general, the role of the security officer, and the data type security information.
 pub const GENERAL_CATEGORY: u8 = 0;
 

@@ -1,5 +1,3 @@
 -- Laws that only this crate's proofs cite.
 pub mod SameNumber
 pub mod ReadingLoop
-pub mod NewNumbers
-pub mod WritingLoop

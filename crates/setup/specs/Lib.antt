@@ -1,4 +1,2 @@
--- Definitions beside document 01's: what the reader keeps, and records stored into a lent buffer; and a law of the writer.
+-- Beside document 01's definitions: what the reader keeps of the records before a record.
 pub mod Progress
-pub mod Writing
-pub mod Laws

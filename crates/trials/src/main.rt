@@ -113,7 +113,7 @@ fn holds_alone(s: &[u8], out: &[u8]) -> bool {
 // is untouched.
 fn write_into(f: Facility, s: &[u8], out: &mut [u8], room: usize) {
     if room <= out.len() {
-        let w = setup::write_setup(f, &mut out[..room]);
+        let w = writer::write_setup(f, &mut out[..room]);
         show_length(w);
         show_buffer(s, out);
     }
@@ -149,7 +149,7 @@ fn write_back(f: Facility, s: &[u8], room: usize) {
 // A line where a set-up that is written out into a longer buffer touches a byte behind it.
 fn write_with_room(f: Facility, s: &[u8]) {
     let mut out = [OTHER; 4096];
-    setup::write_setup(f, &mut out);
+    writer::write_setup(f, &mut out);
     if !holds_alone(s, &out) {
         io::write_all(STDOUT_FILENO, b"touched\n");
     }
@@ -169,7 +169,7 @@ fn weighed(bytes: &[u8], n: usize) -> u64 {
 }
 
 fn show_written(f: Facility, out: &mut [u8]) {
-    let w = setup::write_setup(f, out);
+    let w = writer::write_setup(f, out);
     match w {
         WriteOutcome::Written { length } => {
             show(length as u64, b' ');

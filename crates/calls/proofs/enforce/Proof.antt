@@ -1,7 +1,8 @@
 -- The outcome is that of query, and the facility the one after what the call changes.
 use mathlib.Core.Path.{_∙_, ap}
 use Rattle.state.specs.State.{changed}
-use Rattle.calls.specs.Laws.Calls.{enforced-outcome, enforced-facility}
+use Rattle.questions.specs.Laws.Calls.{enforced-outcome}
+use Rattle.effects.specs.Laws.Changes.{enforced-facility}
 use borrow.Author.Needs.{needs}
 use Rattle.calls.proofs.enforce.Statement.{statement}
 use Rattle.calls.proofs.enforce.Tie as tie

@@ -5,7 +5,7 @@ use mathlib.Core.Path.{_∙_, ap}
 use borrow.Author.Needs.{needs}
 use Rattle.rules.specs.declared.View.{View}
 use Rattle.questions.specs.Parts.{outcomeIn}
-use Rattle.calls.specs.Laws.Calls.{query-is}
+use Rattle.questions.specs.Laws.Calls.{query-is}
 
 returns : tie.Need-returns
 returns c =

@@ -21,7 +21,7 @@ use Rattle.rules.specs.declared.Reading.{Reading}
 use Rattle.rules.specs.Setup.{readSetup}
 use Rattle.answers.specs.Outcomes.{numberOf}
 use Rattle.rules.specs.declared.Enforced.{Enforced}
-use Rattle.calls.specs.Laws.Calls.{enforced-accepted}
+use Rattle.questions.specs.Laws.Calls.{enforced-accepted}
 use Rattle.labels.specs.Laws.Decisions.{and-l, and-r, and-i}
 use Rattle.rules.specs.Flow.{allFourBytes}
 

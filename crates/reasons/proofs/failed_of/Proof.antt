@@ -1,6 +1,6 @@
 -- The number is that of the outcome, which is query's.
 use borrow.Author.Needs.{needs}
-use Rattle.calls.specs.Laws.Calls.{enforced-outcome}
+use Rattle.questions.specs.Laws.Calls.{enforced-outcome}
 use Rattle.reasons.specs.Proofs.Found.{failed-found}
 use Rattle.reasons.proofs.failed_of.Statement.{statement}
 use Rattle.reasons.proofs.failed_of.Tie as tie

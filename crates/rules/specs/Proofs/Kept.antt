@@ -4,16 +4,18 @@ use mathlib.Core.Path.{_≡_, refl, _∙_}
 use mathlib.Core.List.{List, [], _∷_}
 use lib.Dec.{ltb}
 use native.Mathlib.Omega.{arith}
-use Rattle.rules.specs.Types.{Call, Object, Facility}
+use Rattle.rules.specs.Types.{Call, Object, Facility, Change, NoChange, PutProcess, CloneProcess, EndProcess, UseObject, CreateObject, EnterObject}
+use Rattle.state.specs.declared.Change.the-variants.{CountRefusal}
 use Rattle.labels.specs.Laws.Decisions.{by-test}
 use Rattle.answers.specs.Outcomes.{denies}
 use Rattle.opens.specs.Opens.{mostObjects}
-use Rattle.state.specs.State.{objectIn, labelOf, putProcess, putOpens, putObject, addObject, dropObject, putRefusals, counted, openBy}
-use Rattle.rules.specs.Effects.{effectFrom, effectBy}
-use Rattle.rules.specs.Calls.{accepted, afterRefusal, after}
+use Rattle.state.specs.State.{changed, objectIn, labelOf, putProcess, putOpens, putObject, addObject, dropObject, putRefusals, counted, openBy}
+use Rattle.rules.specs.Modules.{viewOf}
+use Rattle.rules.specs.Effects.{changeOf, effectFrom}
+use Rattle.rules.specs.Calls.{ownerIn, accepted, afterRefusal, after}
 use Rattle.rules.specs.Histories.{run}
-use Rattle.rules.specs.Requests.{Action, Login, Clone, SendSignal, SetLevel, Terminate, Create, OnObject, Unknown, OpenChange, Keep, Add, Close}
-use Rattle.rules.specs.Requests.{CloseAll, actionOf, inDirectory, openChange}
+use Rattle.rules.specs.Requests.{OpenChange, Keep, Add, Close}
+use Rattle.rules.specs.Requests.{CloseAll, actionOf}
 use Rattle.rules.specs.Questions.{number}
 use Rattle.rules.specs.Proofs.Invariant.{level-old}
 
@@ -39,32 +41,28 @@ kept-open (Add m) f p t u h = record { inside = h; label = refl }
 kept-open Close f p t u h = record { inside = h; label = refl }
 kept-open CloseAll f p t u h = record { inside = h; label = refl }
 
-kept-effect : (k : Action) (f : Facility) (c : Call) (t : ℕ) → t < f .entered → Kept f (effectBy k f c) t
-unfolding effectFrom putProcess putOpens
-kept-effect Login f c t h = record { inside = h; label = refl }
-kept-effect Clone f c t h = record { inside = h; label = refl }
-kept-effect SendSignal f c t h = record { inside = h; label = refl }
-kept-effect Unknown f c t h = kept f t h
-kept-effect SetLevel f c t h = record { inside = h; label = refl }
-kept-effect Terminate f c t h = record { inside = h; label = refl }
-kept-effect Create f c t h =
-    by-test (inDirectory (c .extra))
-    (λ e. rw e (let K = kept-add (putProcess f (c .process) _) _ t h in record { inside = K .inside; label = K .label }))
-    (λ e. rw e (kept-add f _ t h))
-kept-effect OnObject f c t h =
-    let K = kept-open (openChange (c .request)) (putProcess f (c .process) _) (c .process) (c .target) t h in
+-- whatever is changed
+kept-changed : (x : Change) (f : Facility) (t : ℕ) → t < f .entered → Kept f (changed f x) t
+unfolding putProcess putOpens counted putRefusals
+kept-changed NoChange f t h = kept f t h
+kept-changed (PutProcess p r) f t h = record { inside = h; label = refl }
+kept-changed (CloneProcess p q) f t h = record { inside = h; label = refl }
+kept-changed (EndProcess p) f t h = record { inside = h; label = refl }
+kept-changed (UseObject p r u o) f t h =
+    let K = kept-open o (putProcess f p r) p u t h in
     record { inside = K .inside; label = K .label }
-
-counted-kept : (f : Facility) (u t : ℕ) → t < f .entered → Kept f (counted f u) t
-unfolding counted putRefusals
-counted-kept f u t h = record { inside = h; label = refl }
+kept-changed (CreateObject p r o) f t h =
+    let K = kept-add (putProcess f p r) o t h in
+    record { inside = K .inside; label = K .label }
+kept-changed (EnterObject o) f t h = kept-add f o t h
+kept-changed (CountRefusal u) f t h = record { inside = h; label = refl }
 
 kept-after : (f : Facility) (c : Call) (t : ℕ) → t < f .entered → Kept f (after f c) t
-unfolding after afterRefusal
+unfolding after afterRefusal effectFrom
 kept-after f c t h =
     by-test (accepted f c)
-    (λ e. rw e (kept-effect (actionOf (c .request)) f c t h))
-    (λ e. rw e (by-test (denies (number f c)) (λ d. rw d (counted-kept f _ t h)) (λ d. rw d (kept f t h))))
+    (λ e. rw e (kept-changed (changeOf (actionOf (c .request)) (viewOf f c) c) f t h))
+    (λ e. rw e (by-test (denies (number f c)) (λ d. rw d (kept-changed (CountRefusal (ownerIn f c)) f t h)) (λ d. rw d (kept f t h))))
 
 pub kept-run : (cs : List Call) (f : Facility) (t : ℕ) → t < f .entered → Kept f (run f cs) t
 unfolding run

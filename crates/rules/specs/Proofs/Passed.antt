@@ -13,8 +13,9 @@ use Rattle.opens.specs.Opens.{mostProcesses, mostObjects}
 use Rattle.answers.specs.Answers.{isNotGranted, isUndefined, passes}
 use Rattle.answers.specs.Laws.Answers.{neither-passes, passes-not-granted, passes-undefined, passes-first}
 use Rattle.rules.specs.Calls.{accepted}
+use Rattle.rules.specs.Proofs.Actions.{is-create}
 use Rattle.rules.specs.Requests.{Action, lastRequest, actionOf, isAbsent, isNoCondition, isLogin, isClone, isSendSignal, isSetLevel}
-use Rattle.rules.specs.Requests.{Login, Clone, SendSignal, SetLevel, Terminate, Create, OnObject, Unknown, isCreate, needsObject}
+use Rattle.rules.specs.Requests.{Create, isCreate, needsObject}
 use Rattle.rules.specs.Modules.{View, viewOf, classIn, macRule, macAnswer, answers}
 use Rattle.rules.specs.Questions.{runsOf, inRange, isRunning, isFree, openFor, roomFor, numberBy, number}
 
@@ -107,16 +108,6 @@ unfolding accepted
 accepted-zero f c h = eqb-true _ _ h
 
 -- an accepted create
-is-create : (k : Action) → isCreate k ≡ true → k ≡ Create
-is-create Login h = clash h refl
-is-create Clone h = clash h refl
-is-create SendSignal h = clash h refl
-is-create SetLevel h = clash h refl
-is-create Terminate h = clash h refl
-is-create Create h = refl
-is-create OnObject h = clash h refl
-is-create Unknown h = clash h refl
-
 pub create-passed : (f : Facility) (c : Call) → accepted f c ≡ true → isCreate (actionOf (c .request)) ≡ true
     → (actionOf (c .request) ≡ Create) × Passed Create (viewOf f c) c
 create-passed f c a k =

@@ -1,6 +1,6 @@
 -- What an accepted call makes of the processes: it puts one or none, and leaves the others.
 use Prim.Native.Nat.{ℕ, _<_}
-use mathlib.Core.Path.{_≡_, refl, subst⁻¹}
+use mathlib.Core.Path.{_≡_, refl, subst⁻¹, subst}
 use mathlib.Core.Logic.{_≢_}
 use mathlib.Core.Bool.{Bool, true, false}
 use mathlib.Core.List.{List}
@@ -19,6 +19,7 @@ use Rattle.rules.specs.Calls.{afterRefusal}
 use Rattle.rules.specs.Requests.{Action, Login, Clone, SendSignal, SetLevel, Terminate, Create, OnObject, Unknown, OpenChange, Keep, Add, Close}
 use Rattle.rules.specs.Requests.{CloseAll, isLogin, isClone, inDirectory, needsObject, openChange}
 use Rattle.rules.specs.Modules.{View, viewOf, moved, levelled, signalled}
+use Rattle.rules.specs.Proofs.Actions.{is-login, is-clone, needs}
 use Rattle.rules.specs.Proofs.Leaves.{effect-leaves}
 use Rattle.rules.specs.Proofs.Passed.{Passed}
 
@@ -91,34 +92,16 @@ abbrev pub Unput : Action → Call → ℕ → Type 0
 Unput k c q = puts k c ≡ true → q ≢ putNumber k c
 
 pub unput-login : (k : Action) (c : Call) (q : ℕ) → Unput k c q → isLogin k ≡ true → q ≢ c .process
-unput-login Login c q u h = u refl
-unput-login Clone c q u h = clash h refl
-unput-login SendSignal c q u h = clash h refl
-unput-login SetLevel c q u h = clash h refl
-unput-login Terminate c q u h = clash h refl
-unput-login Create c q u h = clash h refl
-unput-login OnObject c q u h = clash h refl
-unput-login Unknown c q u h = clash h refl
+unput-login k c q u h = subst (λ (z : Action). Unput z c q) (is-login k h) u refl
 
 pub unput-clone : (k : Action) (c : Call) (q : ℕ) → Unput k c q → isClone k ≡ true → q ≢ c .target
-unput-clone Login c q u h = clash h refl
-unput-clone Clone c q u h = u refl
-unput-clone SendSignal c q u h = clash h refl
-unput-clone SetLevel c q u h = clash h refl
-unput-clone Terminate c q u h = clash h refl
-unput-clone Create c q u h = clash h refl
-unput-clone OnObject c q u h = clash h refl
-unput-clone Unknown c q u h = clash h refl
+unput-clone k c q u h = subst (λ (z : Action). Unput z c q) (is-clone k h) u refl
 
 pub unput-caller : (k : Action) (c : Call) (q : ℕ) → Unput k c q → needsObject k (c .extra) ≡ true → q ≢ c .process
-unput-caller Login c q u h = clash h refl
-unput-caller Clone c q u h = clash h refl
-unput-caller SendSignal c q u h = clash h refl
-unput-caller SetLevel c q u h = clash h refl
-unput-caller Terminate c q u h = clash h refl
-unput-caller Create c q u h = u h
-unput-caller OnObject c q u h = u refl
-unput-caller Unknown c q u h = clash h refl
+unput-caller k c q u h =
+    needs k (c .extra) h
+    (λ e. subst (λ (z : Action). Unput z c q) e u (subst (λ (z : Action). needsObject z (c .extra) ≡ true) e h))
+    (λ e. subst (λ (z : Action). Unput z c q) e u refl)
 
 -- an accepted call: what holds of the process that it puts and of those that it leaves holds of each
 pub each-effect : (P : ℕ → Process → Type 0) (k : Action) (f : Facility) (c : Call) → Shaped f → Passed k (viewOf f c) c

@@ -3,35 +3,19 @@ use Rattle.answers.specs.declared.Outcome.the-variants.{Refused}
 use Prim.Native.Nat.{ℕ, _≤_}
 use mathlib.Core.Path.{_≡_}
 use mathlib.Core.Logic.{_≢_}
-use mathlib.Core.Bool.{Bool, true, false}
+use mathlib.Core.Bool.{true, false}
 use lib.Dec.{eqb}
 use native.Mathlib.Omega.{arith}
 use borrow.Author.Tests.{eqb-true, ne-eqb}
 use Rattle.rules.specs.Types.{Call, Facility}
-use Rattle.labels.specs.Decisions.{_or_, ask}
+use Rattle.labels.specs.Decisions.{_or_}
 use Rattle.labels.specs.Laws.Decisions.{or-cases, by-test}
 use Rattle.answers.specs.Outcomes.{denies, outcomeOf, numberOf}
 use Rattle.answers.specs.Laws.Outcomes.{outcome-number}
 use Rattle.state.specs.State.{putRefusals, counted}
 use Rattle.rules.specs.Calls.{ownerIn, accepted, query, afterRefusal, after}
-use Rattle.rules.specs.Requests.{Action, actionOf}
-use Rattle.rules.specs.Modules.{View, viewOf}
 use Rattle.rules.specs.Promises.{Refusals}
-use Rattle.rules.specs.Questions.{numberBy, number}
-
--- a question's number, or one that bounds the later ones'
-ask-most : (b : Bool) (n r m : ℕ) → n ≤ m → r ≤ m → ask b n r ≤ m
-unfolding ask
-ask-most true n r m h k = k
-ask-most false n r m h k = h
-
-largest-number : (k : Action) (v : View) (c : Call) → numberBy k v c ≤ 13
-unfolding numberBy
-largest-number k v c =
-    ask-most _ 1 _ 13 (omega arith) (ask-most _ 2 _ 13 (omega arith) (ask-most _ 3 _ 13 (omega arith) (ask-most _ 4 _ 13 (omega arith)
-    (ask-most _ 5 _ 13 (omega arith) (ask-most _ 8 _ 13 (omega arith) (ask-most _ 6 _ 13 (omega arith) (ask-most _ 7 _ 13 (omega arith)
-    (ask-most _ 9 _ 13 (omega arith) (ask-most _ 10 _ 13 (omega arith) (ask-most _ 11 _ 13 (omega arith) (ask-most _ 12 _ 13 (omega arith)
-    (ask-most _ 13 0 13 (omega arith) (omega arith)))))))))))))
+use Rattle.rules.specs.Questions.{number}
 
 -- 1 to 11 are neither 0 nor 12 nor 13
 pub not-denied : (n : ℕ) → n ≤ 11 → denies n ≡ false
@@ -82,6 +66,5 @@ refusals =
       uncounted = uncounted';
       unasked = unasked';
       counts = counts';
-      largest = λ f c. largest-number (actionOf (c .request)) (viewOf f c) c;
       numbered = query-number;
     }

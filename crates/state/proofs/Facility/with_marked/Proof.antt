@@ -4,8 +4,9 @@ use Rattle.state.specs.State.{processesIn, putProcess, putOpens, opensOf
 use Rattle.state.specs.Shaped.{ProcessesShaped}
 use Rattle.state.specs.Laws.ReadBack.{opens-out, marks-of-none}
 use borrow.Author.Needs.{length-unmapped}
-use lib.ListN.{length}
-use mathlib.Core.Path.{_≡_, sym}
+use lib.ListN.{length, set}
+use mathlib.Core.Path.{_≡_, sym, _∙_, ap}
+use Rattle.labels.specs.Decisions.{at}
 use Prim.Native.Nat.{ℕ}
 use borrow.Author.Needs.{needs}
 use Rattle.state.proofs.Facility.with_marked.Statement.{statement}
@@ -13,7 +14,13 @@ use Rattle.state.proofs.Facility.with_marked.Tie as tie
 
 returns : tie.Need-returns
 unfolding putProcess putOpens opensOf
-returns c = rw (c .marks-after .ensures, c .before .at .ensures, c .before .before .before .before .before .before .before .mark-place .ensures)
+returns c =
+    let k = c .before .before .before .before .before .before .before in
+    let a = k .before .args in
+    let f = a .t1 in
+    let e = k .mark-place .ensures in
+    let v = c .marks-after .ensures ∙ ap (marksAfter (a .change)) (c .before .at .ensures ∙ ap (at (f .opens)) e) in
+    λ i. putOpens (putProcess f (a .p) (a .r)) (set (f .opens) (e i) (v i))
 
 returns-2 : tie.Need-returns-2
 unfolding putProcess

@@ -1,2 +1,0 @@
--- Laws of query and enforce.
-pub mod Laws
