@@ -14,7 +14,12 @@ returns-2 : tie.Need-returns-2
 unfolding enterRecord
 returns-2 c =
     let t = c .before .before in
-    rw (c .with-user .ensures, c .before .user-entered .ensures, ne-eqb _ switchesRecordKind (t .before .before .if1 .left), eq-eqb _ userRecordKind (t .if2 .taken))
+    rw (
+      c .with-user .ensures,
+      c .before .user-entered .ensures,
+      ne-eqb _ switchesRecordKind (t .before .before .if1 .left),
+      eq-eqb _ userRecordKind (t .if2 .taken),
+    )
 
 returns-3 : tie.Need-returns-3
 unfolding enterRecord
