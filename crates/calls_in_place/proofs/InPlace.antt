@@ -18,10 +18,11 @@ use Rattle.rules.specs.Matter.{holds}
 use Rattle.rules.specs.Setup.{fresh}
 use Rattle.rules.specs.Proofs.OnlyWhen.{only-when-after}
 use Rattle.rules.specs.Proofs.Refusals.{refusals}
+use Rattle.rules.specs.Proofs.Signals.{signals}
 use Rattle.matter.specs.declared.Ledger.{Ledger}
-use Rattle.matter.specs.LedgerSteps.{startOf, stepOf, heldBy}
-use Rattle.matter.specs.AfterCalls.{ledgerAfter}
-use Rattle.matter.specs.Laws.AfterCalls.{held-exactly}
+use Rattle.matter.specs.LedgerSteps.{startOf, stepOf, heldBy, accountOf}
+use Rattle.matter.specs.AfterCalls.{ledgerAfter, ledgerOf}
+use Rattle.matter.specs.Laws.AfterCalls.{account-kept, held-exactly}
 use Rattle.history.specs.Promised.{Promised}
 use Rattle.history.specs.Laws.Promised.{promised}
 use Rattle.in_place.specs.Layout.{facilityAt}
@@ -77,17 +78,21 @@ pub in-place : InPlace
 in-place s b x cs os z B M =
     let L = listed x z cs os M (fresh s) (B .bytes .0) in
     let e = L .bytes .0 in
+    let k : z .account ≡ ledgerOf s cs = L .account ∙ ap (λ (l : Ledger). ledgerAfter l (history (fresh s) cs)) (started s b x B) in
     let h : (t c : ℕ) → heldBy (z .account .objects) t c ≡ holds s cs t c = λ t c.
-    ap (λ (l : Ledger). heldBy (l .objects) t c) (L .account ∙ ap (λ (l : Ledger). ledgerAfter l (history (fresh s) cs)) (started s b x B))
-    ∙ held-exactly s cs t c in
+    ap (λ (l : Ledger). heldBy (l .objects) t c) k ∙ held-exactly s cs t c in
     record {
       bytes = (e, L .bytes .1 ∙ B .bytes .1);
       told = L .told;
       promised = subst⁻¹ (λ (f : Facility). Promised s cs f) e (promised s cs);
+      account = ap accountOf k ∙ account-kept s cs;
       holding = h;
       onlyWhen = λ m u t c g n.
           subst⁻¹ (λ (f : Facility). Above (labelOf f t) (labelOf f c)) e
           (only-when-after s cs (ap (λ (f : Facility). on (f .mac)) (sym e) ∙ m) u c t (sym (h t c) ∙ g) n);
       counts = λ c o y N d. counts' z c o y N d;
       unchanged = λ c o y N a d. unchanged' z c o y N a d;
+      raises = λ c o y N A m t. N .bytes .0 ∙ signals .raises (facilityAt (z .bytes)) c A m t;
+      off = λ c o y N A m. N .bytes .0 ∙ signals .off (facilityAt (z .bytes)) c A m;
+      trusted = λ c o y N A t. N .bytes .0 ∙ signals .trusted (facilityAt (z .bytes)) c A t;
     }

@@ -10,14 +10,15 @@ use Rattle.labels.specs.Decisions.{on}
 use Rattle.answers.specs.declared.Outcome.{Outcome}
 use Rattle.answers.specs.Outcomes.{numberOf, denies}
 use Rattle.state.specs.declared.Call.{Call}
-use Rattle.state.specs.State.{labelOf, processOf, counted}
+use Rattle.state.specs.State.{labelOf, processOf, trustedUser, counted}
 use Rattle.rules.specs.Calls.{query, after}
 use Rattle.rules.specs.Flow.{Above}
 use Rattle.rules.specs.Histories.{run, outcomes, trustedLogins}
-use Rattle.rules.specs.Matter.{holds}
+use Rattle.rules.specs.Matter.{accountAfter, holds}
+use Rattle.rules.specs.Promises.{AcceptedSignal, receiverOwner, withReadMarkRaised}
 use Rattle.rules.specs.Setup.{fresh}
 use Rattle.matter.specs.declared.Ledger.{Ledger}
-use Rattle.matter.specs.LedgerSteps.{startOf, stepOf, heldBy}
+use Rattle.matter.specs.LedgerSteps.{startOf, stepOf, heldBy, accountOf}
 use Rattle.history.specs.Promised.{Promised}
 use Rattle.in_place.specs.Layout.{facilityAt}
 use Rattle.in_place.specs.Stores.{Becomes}
@@ -51,7 +52,8 @@ pub record Afterwards (s b : List ℕ) (cs : List Call) (os : List Outcome) (z :
   pub told : os ≡ outcomes (fresh s) cs
   -- Tickets 1, 2 and 5, set-ups, object numbers and labels
   pub promised : Promised s cs (facilityAt (z .bytes))
-  -- what the account answers (`hv_account_holds`) is the paper's
+  -- the account is the paper's, of objects and of processes; and so is what it answers (`hv_account_holds`)
+  pub account : accountOf (z .account) ≡ accountAfter s cs
   pub holding : (t c : ℕ) → heldBy (z .account .objects) t c ≡ holds s cs t c
   -- demand 3, first half
   pub onlyWhen : on (facilityAt (z .bytes) .mac) ≡ true → trustedLogins (fresh s) cs ≡ false
@@ -61,6 +63,15 @@ pub record Afterwards (s b : List ℕ) (cs : List Call) (os : List Outcome) (z :
       → facilityAt (y .bytes) ≡ counted (facilityAt (z .bytes)) ((processOf (facilityAt (z .bytes)) (c .process)) .owner)
   pub unchanged : (c : Call) (o : Outcome) (y : Kept) → CallMade z c o y → eqb (numberOf o) 0 ≡ false → denies (numberOf o) ≡ false
       → facilityAt (y .bytes) ≡ facilityAt (z .bytes)
+  -- Ticket 4: one call more, an accepted signal, raises the read mark of an untrusted receiver to its current label, with MAC on, and changes nothing else
+  pub raises : (c : Call) (o : Outcome) (y : Kept) → CallMade z c o y → AcceptedSignal (facilityAt (z .bytes)) c → on (facilityAt (z .bytes) .mac) ≡ true
+      → trustedUser (facilityAt (z .bytes)) (receiverOwner (facilityAt (z .bytes)) c) ≡ false
+      → facilityAt (y .bytes) ≡ withReadMarkRaised (facilityAt (z .bytes)) (c .target)
+  -- with MAC off, or a trusted receiver, it changes nothing
+  pub off : (c : Call) (o : Outcome) (y : Kept) → CallMade z c o y → AcceptedSignal (facilityAt (z .bytes)) c → on (facilityAt (z .bytes) .mac) ≡ false
+      → facilityAt (y .bytes) ≡ facilityAt (z .bytes)
+  pub trusted : (c : Call) (o : Outcome) (y : Kept) → CallMade z c o y → AcceptedSignal (facilityAt (z .bytes)) c
+      → trustedUser (facilityAt (z .bytes)) (receiverOwner (facilityAt (z .bytes)) c) ≡ true → facilityAt (y .bytes) ≡ facilityAt (z .bytes)
 
 abbrev pub InPlace : Type 0
 InPlace =
