@@ -244,6 +244,8 @@ static int agree(void)
             if (random_below(10) == 0) s[random_below((uint32_t)n)] = (uint8_t)random_below(256);
             uint8_t number = plain_read_setup(&plain, s, n, &index);
             hv_reading r = hv_read_setup(s, n);
+            hv_setup_numbers at = hv_read_setup_at(s, n, &proved);
+            if (at.number != number || at.index != index || !same(&plain, &proved)) return printf("set-ups in place differ\n"), 0;
             proved = r.facility;
             if (r.number != number || r.index != index || !same(&plain, &proved)) return printf("set-ups differ\n"), 0;
             if (!same_written(&plain, &proved)) return printf("set-ups written out differ\n"), 0;
@@ -453,6 +455,36 @@ static void row(const char *table, const char *name, const list *l, work *const 
 static uint8_t setup_bytes[HV_SETUP_MOST];
 static size_t setup_length;
 
+/* The set-up read into a facility where it is, by value, and in plain C. */
+static void proved_read_at(const list *l)
+{
+    static hv_facility f;
+    for (int k = 0; k < l->n; k++) sink = hv_read_setup_at(setup_bytes, setup_length, &f).number;
+}
+
+static void proved_read(const list *l)
+{
+    for (int k = 0; k < l->n; k++) sink = hv_read_setup(setup_bytes, setup_length).number;
+}
+
+static void in_place_read(const list *l)
+{
+    static hv_facility f;
+    uint16_t index;
+    for (int k = 0; k < l->n; k++) sink = plain_read_setup(&f, setup_bytes, setup_length, &index);
+}
+
+/* The same, and what was read is written out. */
+static void proved_setup_at(const list *l)
+{
+    static hv_facility f;
+    uint8_t out[HV_SETUP_MOST];
+    for (int k = 0; k < l->n; k++) {
+        hv_read_setup_at(setup_bytes, setup_length, &f);
+        sink = (uint32_t)hv_write_setup_at(&f, out, sizeof out).length;
+    }
+}
+
 static void proved_setup(const list *l)
 {
     for (int k = 0; k < l->n; k++) {
@@ -553,7 +585,8 @@ int main(void)
     work *const queries[WORKS] = {proved_query_at, in_place_query, inlined_in_place_query, proved_query, by_value_query};
     work *const enforces[WORKS] = {proved_enforce_at, in_place_enforce, inlined_in_place_enforce, proved_enforce, by_value_enforce};
     work *const blocks[WORKS] = {proved_block_at, in_place_block, inlined_in_place_block, proved_block, NULL};
-    work *const setups[WORKS] = {NULL, in_place_setup, NULL, proved_setup, NULL};
+    work *const reads[WORKS] = {proved_read_at, in_place_read, NULL, proved_read, NULL};
+    work *const setups[WORKS] = {proved_setup_at, in_place_setup, NULL, proved_setup, NULL};
     work *const writes[WORKS] = {proved_write_at, in_place_write, NULL, proved_write, NULL};
     make(&l, &f, ANY);
     row("call", "query", &l, queries);
@@ -595,6 +628,7 @@ int main(void)
     make(&l, &f, ANY);
     row("whole", "enforce and line, in blocks", &l, blocks);
     l.n = 64;
+    row("whole", "set-up read", &l, reads);
     row("whole", "set-up read and written out", &l, setups);
     row("whole", "set-up written out", &l, writes);
     return 0;

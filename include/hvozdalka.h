@@ -69,7 +69,7 @@ extern "C" {
 #define HV_STACK_AT 8192             /* every function that is in neither of the next two lists */
 #define HV_STACK_BY_VALUE 20480      /* hv_query, hv_why, hv_why_words, hv_write_setup, hv_user, hv_process, hv_object, hv_most_moves, hv_effective_flags,
                                       * hv_flag_source, hv_open_marks, hv_refusals, hv_summary, hv_account_start, hv_account_holds */
-#define HV_STACK_MOST 98304          /* hv_enforce, hv_read_setup, hv_read_setup_at, hv_replay, hv_holds, hv_account_step, hv_put_block, hv_put_words */
+#define HV_STACK_MOST 98304          /* hv_enforce, hv_read_setup, hv_replay, hv_holds, hv_account_step, hv_put_block, hv_put_words */
 
 /* Requests: byte 0 of a call. Byte 1 is the process p, byte 2 the target t, byte 3 the extra e (hv_call). */
 enum hv_request {

@@ -12,8 +12,8 @@
  * a process, its record as an object, its effective flags, and for each flag the object that it comes from; then the set-up written out after the
  * calls, behind its length in two bytes; then for each length of a buffer number and length in two bytes, and
  * the buffer, whose bytes were 165, with eight bytes behind it; then for each pair whether the first holds the matter of the second after the calls.
- * Each call is made by value and where the facility is, why it is refused is asked both ways, and each set-up written out; a difference between the two
- * ends the program with status 1, a set-up written out that is not read back as it is with status 3, a text that is not cut off as it has to be, or
+ * Each call is made by value and where the facility is, why it is refused is asked both ways, and each set-up read and written out; a difference between
+ * the two ends the program with status 1, a set-up written out that is not read back as it is with status 3, a text that is not cut off as it has to be, or
  * that touches a byte behind it, with status 4. Each call is first made at another seat, on a copy; where it does not get 1 or 2 there, or changes
  * anything, the program ends with status 5. With an argument it prints the words of each byte as a role, a category and a data type instead, a line
  * for each byte. */
@@ -198,13 +198,24 @@ static void one_call(hv_facility *f, const uint8_t *c)
     put_object(*f, c[2]);
 }
 
+/* A set-up read by value, and into a facility where it is that was full of other bytes. */
+static hv_reading read_setup(const uint8_t *setup, size_t length)
+{
+    static hv_facility f;
+    memset(&f, 165, sizeof f);
+    hv_reading r = hv_read_setup(setup, length);
+    hv_setup_numbers n = hv_read_setup_at(setup, length, &f);
+    if (n.number != r.number || n.index != r.index || !same(&f, &r.facility)) exit(1);
+    return r;
+}
+
 /* The set-up written out, and whether it is read back: number 0, and written out again the same bytes. */
 static void put_setup(hv_facility f)
 {
     uint8_t out[HV_SETUP_MOST], again[HV_SETUP_MOST];
     hv_writing w = hv_write_setup(f, out, sizeof out);
     if (w.number != HV_ACCEPTED) exit(3);
-    hv_reading r = hv_read_setup(out, w.length);
+    hv_reading r = read_setup(out, w.length);
     if (r.number != HV_ACCEPTED) exit(3);
     hv_writing v = hv_write_setup(r.facility, again, sizeof again);
     if (v.number != HV_ACCEPTED || v.length != w.length || memcmp(out, again, w.length) != 0) exit(3);
@@ -260,7 +271,7 @@ int main(int count, char **arguments)
         size_t calls = number(b, 4);
         if (calls > sizeof list / 4) return 2;
         need(list, calls * 4);
-        hv_reading r = hv_read_setup(setup, length);
+        hv_reading r = read_setup(setup, length);
         put((uint8_t[3]){r.number, r.index & 255, r.index >> 8}, 3);
         for (int u = 0; u < HV_USERS; u++) r.facility.refusals[u] = (uint32_t)number(counters + 4 * u, 4);
         for (size_t k = 0; k < calls && r.number == HV_ACCEPTED; k++) one_call(&r.facility, list + 4 * k);

@@ -4,6 +4,7 @@ ghost use Rattle.rules.specs.Calls.{enforce, query};
 ghost use Rattle.rules.specs.Modules.{viewOf};
 use answers::Outcome;
 use rules::Enforced;
+use rules::Looked;
 use rules::Target;
 use rules::View;
 use state::Call;
@@ -85,9 +86,9 @@ pub fn view_of(f: Facility, c: Call) -> View
             receiver,
             object,
             opens,
-            flags,
             owner: other,
         },
+        looked: Looked { flags },
     }
 }
 

@@ -16,9 +16,9 @@ const TRIES: u64 = 1 << 53;
 
 // What a read came to: how many bytes the front of the buffer has now, and what the system said. Where the buffer was full, and nothing was asked of the
 // system, that is 0, as for a read of no bytes.
-struct Got {
-    total: usize,
-    said: isize,
+pub struct Got {
+    pub total: usize,
+    pub said: isize,
 }
 
 // What was read of a set-up: what it came to, how many bytes it has, and what the system said of the last read.
@@ -219,13 +219,20 @@ fn read_file(path: &[u8], bytes: &mut [u8]) -> Got
     got
 }
 
-// Reads the set-up in `setup.bin`, in the folder where the program is started, to the front of a buffer. Every allowed length is far below 65,536, so that
+// Reads `setup.bin`, in the folder where the program is started, to the front of a buffer. Every allowed length of a set-up is far below 65,536, so that
 // of a longer file the front is refused as the whole would be, where the buffer has so many bytes.
+pub fn read_setup_bytes(bytes: &mut [u8]) -> Got
+    ensures { λ r. ⌜ WholeFile (now (bytes .exit)) (r .total) (r .said) ⌝ }
+{
+    read_file(b"setup.bin", bytes)
+}
+
+// The same, and the set-up that they are.
 pub fn read_setup(bytes: &mut [u8]) -> SetupRead
     ensures { λ r. ⌜ WholeFile (now (bytes .exit)) (r .count) (r .said) ⌝ }
     ensures { λ r. ⌜ r .reading ≡ readSetup (take (r .count) (now (bytes .exit))) ⌝ }
 {
-    let got = read_file(b"setup.bin", bytes);
+    let got = read_setup_bytes(bytes);
     let count = got.total;
     SetupRead {
         reading: setup::read_setup(&bytes[..count]),

@@ -55,7 +55,7 @@ fn change_of_create(v: View, c: Call) -> Change
     ensures { λ x. ⌜ x ≡ changeOf Action.Create v c ⌝ }
 {
     if requests::in_directory(c.extra) {
-        let r = modules::moved(v, c);
+        let r = modules::moved(modules::class_in(v, c), v);
         let o = created(r, c.extra, c.target);
         return Change::CreateObject { p: c.process, r, o };
     }
@@ -66,7 +66,7 @@ fn change_of_create(v: View, c: Call) -> Change
 fn change_on_object(v: View, c: Call) -> Change
     ensures { λ x. ⌜ x ≡ changeOf Action.OnObject v c ⌝ }
 {
-    let r = modules::moved(v, c);
+    let r = modules::moved(modules::class_in(v, c), v);
     let opens = requests::open_change(c.request);
     Change::UseObject {
         p: c.process,

@@ -3,7 +3,6 @@ use Prim.Native.Nat.{ℕ}
 use mathlib.Core.Path.{_≡_, refl}
 use mathlib.Core.List.{List, [], _∷_, _++_, map}
 use Rattle.answers.specs.declared.Answer.the-variants.{NotCared, Granted, NotGranted, Undefined}
-use Rattle.answers.specs.declared.Outcome.{Outcome}
 use Rattle.answers.specs.declared.Outcome.the-variants.{Accepted, Denied, Refused}
 use Rattle.answers.specs.Outcomes.{answersFrom, numberOf, outcomeNumbers}
 use Rattle.state.specs.declared.Facility.{Facility}

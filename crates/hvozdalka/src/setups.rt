@@ -52,11 +52,7 @@ pub extern "C" fn hv_read_setup_at(bytes: &[u8], f: &mut [u8; in_place::SIZE]) -
     ensures { λ r. ⌜ r ≡ setupNumbers ((readSetup (now (bytes .entry))) .outcome) ⌝ }
     ensures { λ r. ⌜ Becomes (now (f .entry)) (now (f .exit)) ((readSetup (now (bytes .entry))) .facility) ⌝ }
 {
-    let reading = setup::read_setup(bytes);
-    let facility = reading.facility;
-    let outcome = reading.outcome;
-    in_place::store_in(facility, f);
-    setup_numbers(outcome)
+    setup_numbers(setup_in_place::read_in(bytes, f))
 }
 
 // Writes the set-up of a facility where it is into a lent buffer. Number 0 and the length, or 18 and 0 where the buffer is too short, and then it is

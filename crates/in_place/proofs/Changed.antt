@@ -8,20 +8,21 @@ use native.Mathlib.Omega.{arith}
 use borrow.Author.Tests.{lt-ltb, le-ltb}
 use Rattle.state.specs.declared.Process.{Process}
 use Rattle.state.specs.State.{putProcess, putOpens, changed, noProcess, terminated, processOf, cloned, dropObject, deleted, usersIn, objectsFrom}
-use Rattle.state.specs.State.{processesIn, with, putObject, addObject, putRefusals, mostRefusals, mostUsers, refusalsOf, counted}
+use Rattle.state.specs.State.{usersFrom, objectsIn, processesIn, with, putUser, addUser, putObject, addObject, putRefusals, mostRefusals, mostUsers}
+use Rattle.state.specs.State.{refusalsOf, counted}
 use Rattle.in_place.specs.Layout.{fieldOf, facilityOf, facilityAt}
 use Rattle.in_place.specs.Layout.{size, offset, theOpens, wholeSize, theLives, theCategories, theDatatypes, theKinds, theLevels}
-use Rattle.in_place.specs.Layout.{theEntered, theRefusals, theFlags, theParents, theSets, words}
-use Rattle.in_place.specs.Stores.{storeField, storeIn, Becomes, storeProcess, storeObject, paddingIn}
+use Rattle.in_place.specs.Layout.{theEntered, theRefusals, theFlags, theParents, theSets, theUsers, theClearances, theRoles, theTrusts, theClearancesets}
+use Rattle.in_place.specs.Stores.{storeField, storeIn, Becomes, storeUser, storeProcess, storeObject, paddingIn}
 use Rattle.state.specs.declared.Facility.{Facility}
 use Rattle.in_place.proofs.Stored.{stored}
-use Rattle.opens.specs.Laws.Loops.{puts, puts-none, puts-more, puts-whole}
 use Rattle.in_place.proofs.Words.{words-stored, words-length}
 use Rattle.state.specs.Laws.ReadBack.{counted-stays, counted-none}
 use Rattle.opens.specs.Opens.{mostOpens, mostObjects, closeProcess, copyProcess, closeObject}
 use Rattle.state.specs.declared.Change.{Change}
 use Rattle.labels.specs.Decisions.{at}
 use Rattle.state.specs.declared.Object.{Object}
+use Rattle.state.specs.declared.User.{User}
 
 -- the stores of a process
 pub process-stored : (s m : List ℕ) (p : ℕ) (r : Process) → fieldOf m ≡ storeProcess (fieldOf s) p r → facilityAt m ≡ putProcess (facilityAt s) p r
@@ -82,9 +83,37 @@ pub deleted-is : (s m q : List ℕ) (t : ℕ) → Becomes s m (putOpens (facilit
     → q ≡ storeIn m (offset theLives) (size theLives) t 0 → Becomes s q (deleted (facilityAt s) t)
 deleted-is s m q t a h = becomes-then s m q _ (λ x. dropObject x t) a (dropped-is m q t h)
 
--- an object more
+-- a user more, and an object more
 at-first : (l : List ℕ) (v : ℕ) → length l ≡ 1 → at (set l 0 v) 0 ≡ v
 at-first l v h = getD-set-same l 0 v 0 (omega arith)
+
+userWith : (ℕ → List ℕ) → User → ℕ → ℕ → Facility
+userWith g u n users =
+    with (facilityOf g) users
+    (usersFrom (set (g theClearances) n (u .clearance .level)) (set (g theRoles) n (u .role)) (set (g theTrusts) n (u .trusted))
+    (set (g theClearancesets) n (u .clearance .set)))
+    (facilityOf g .entered) (objectsIn (facilityOf g)) (processesIn (facilityOf g)) (g theOpens) (facilityOf g .refusals)
+
+pub user-added : (s m q : List ℕ) (u : User) (n : ℕ) → length s ≡ wholeSize → n ≡ at (fieldOf s theUsers) 0 → n < mostUsers → fieldOf m ≡ storeUser
+    (fieldOf s) n u
+    → q ≡ storeIn m (offset theUsers) (size theUsers) 0 (n + 1) → Becomes s q (addUser (facilityAt s) u)
+unfolding facilityAt addUser putUser userWith
+user-added s m q u n l e b d h =
+    let g = fieldOf s in
+    let w : at (g theUsers) 0 < mostUsers = omega arith in
+    let t = stored m q (storeUser g n u) theUsers 0 (n + 1) d h in (
+      ap (λ (x : ℕ → List ℕ). facilityOf x) t
+          ∙ ap (userWith g u n) (at-first (g theUsers) (n + 1) (field-length s theUsers (omega arith)))
+          ∙ ap (λ (k : ℕ). userWith g u k (k + 1)) e
+          ∙ rw (lt-ltb (at (g theUsers) 0) mostUsers w),
+      ap paddingIn t,
+    )
+
+pub users-full : (s : List ℕ) (u : User) (n : ℕ) → n ≡ at (fieldOf s theUsers) 0 → mostUsers ≤ n → facilityAt s ≡ addUser (facilityAt s) u
+unfolding facilityAt addUser
+users-full s u n e b =
+    let w : mostUsers ≤ at (fieldOf s theUsers) 0 = omega arith in
+    rw (le-ltb (at (fieldOf s theUsers) 0) mostUsers w)
 
 objectWith : (ℕ → List ℕ) → Object → ℕ → ℕ → Facility
 objectWith g o n entered =
@@ -134,28 +163,3 @@ stays-is s u n e b = sym (counted-stays (facilityAt s) u (omega arith))
 pub none-is : (s : List ℕ) (u : ℕ) → mostUsers ≤ u → facilityAt s ≡ counted (facilityAt s) u
 unfolding facilityAt
 none-is s u h = sym (counted-none (facilityAt s) u (words-length (fieldOf s theRefusals)) h)
-
--- the counters of all users, one after the other
-pub counters-first : (s : List ℕ) (v : ℕ → ℕ) → Becomes s s (putRefusals (facilityAt s) (puts (facilityAt s .refusals) (λ j. j) v 0))
-unfolding putRefusals
-counters-first s v = (ap (putRefusals (facilityAt s)) (puts-none (facilityAt s .refusals) (λ j. j) v), refl)
-
-pub counters-more : (s m q : List ℕ) (v : ℕ → ℕ) (u : ℕ)
-    → Becomes s m (putRefusals (facilityAt s) (puts (facilityAt s .refusals) (λ j. j) v u))
-    → Becomes m q (putRefusals (facilityAt m) (set (facilityAt m .refusals) u (v u)))
-    → Becomes s q (putRefusals (facilityAt s) (puts (facilityAt s .refusals) (λ j. j) v (u + 1)))
-unfolding putRefusals
-counters-more s m q v u a b =
-    let l = puts (facilityAt s .refusals) (λ j. j) v u in
-    let t = becomes-then s m q (putRefusals (facilityAt s) l) (λ x. putRefusals x (set (x .refusals) u (v u))) a b in
-    (t .0 ∙ ap (putRefusals (facilityAt s)) (puts-more (facilityAt s .refusals) l (λ j. j) v u refl), t .1)
-
-pub counters-whole : (s m l : List ℕ) (n : ℕ) → length l ≡ mostUsers → n ≡ mostUsers
-    → Becomes s m (putRefusals (facilityAt s) (puts (facilityAt s .refusals) (λ j. j) (at l) n)) → Becomes s m (putRefusals (facilityAt s) l)
-unfolding facilityAt
-counters-whole s m l n e h b =
-    let w : length (words (fieldOf s theRefusals)) ≡ length l = words-length (fieldOf s theRefusals) ∙ sym e in (
-      b .0 ∙ ap (λ (k : ℕ). putRefusals (facilityAt s) (puts (facilityAt s .refusals) (λ j. j) (at l) k)) (h ∙ sym e)
-          ∙ ap (putRefusals (facilityAt s)) (puts-whole (facilityAt s .refusals) l w),
-      b .1,
-    )

@@ -1,29 +1,29 @@
--- A facility by value is stored field by field; and what `Becomes` promises fixes every byte.
+-- A field that is stored whole, and so the opens; and what `Becomes` promises fixes every byte.
 use Prim.Native.Nat.{ℕ, suc, _+_, _≤_, _<_}
 use mathlib.Core.Bool.{cond}
 use mathlib.Core.List.{List, _∷_, [], _++_, append-nil, append-assoc}
 use mathlib.Core.Path.{_≡_, refl, _∙_, ap, fun-ext, sym, ap₂}
 use lib.Dec.{eqb, ltb}
-use lib.Seq.{sets, sets-eq, length-sets, take-add, drop-drop}
-use lib.ListN.{length, drop-of-length-le, set, take, take-append-drop, drop}
+use lib.Seq.{sets, sets-eq, take-add, drop-drop}
+use lib.ListN.{length, drop-of-length-le, take, take-append-drop, drop}
 use native.Mathlib.Omega.{arith}
 use borrow.Author.Tests.{eq-eqb, ne-eqb, ltb-true, ltb-false}
 use Rattle.labels.specs.Laws.Decisions.{by-eq, by-test}
-use Rattle.in_place.specs.Stores.{storeField, storeIn, Becomes, paddingIn}
+use Rattle.in_place.specs.Stores.{storeField, storeIn, paddingIn, Becomes}
 use Rattle.in_place.specs.Layout.{size, offset, fieldOf, wholeSize, theRefusals, facilityAt, theMac, theFc, theSim, theUsers, theEntered}
-use Rattle.in_place.specs.Layout.{facilityOf, theOpens, thePadding, lastField, theClearances, theRoles, theTrusts, theLives, theKinds, theLevels}
+use Rattle.in_place.specs.Layout.{facilityOf, theOpens, thePadding, theClearances, theRoles, theTrusts, theLives, theKinds, theLevels}
 use Rattle.in_place.specs.Layout.{theCategories, theDatatypes, theRunnings, theOwners, theCurrents, theReadmarks, theWritemarks, theAutomatics}
 use Rattle.in_place.specs.Layout.{theFf, theFlags, theParents, theMoves, theClearancesets, theSets, theCurrentsets, theReadsets, theWritesets}
 use Rattle.in_place.specs.Layout.{theLastPadding}
-use Rattle.in_place.proofs.Stored.{store-inside, stored, before, length-store}
-use Rattle.in_place.specs.Fields.{Fields, putField, BecomesUnique, countsPut, usersPut, objectsPut, processesPut}
+use Rattle.in_place.proofs.Stored.{store-inside, stored}
+use Rattle.in_place.specs.Fields.{BecomesUnique}
 use Rattle.in_place.proofs.Changed.{field-length}
 use Rattle.in_place.proofs.Words.{same-words}
 use Rattle.labels.specs.Decisions.{at}
 use Rattle.in_place.proofs.BytesOfParts.{byte-in, byte-past}
 use Rattle.state.specs.declared.Facility.{Facility}
 use Rattle.opens.specs.Opens.{mostOpens}
-use Rattle.state.specs.State.{usersIn, objectsIn, processesIn, putRefusals, putOpens}
+use Rattle.state.specs.State.{putOpens}
 
 -- the fields with the bytes of field k from its byte i on replaced, and with all of it replaced
 abbrev putBytes : (ℕ → List ℕ) → ℕ → ℕ → List ℕ → ℕ → List ℕ
@@ -49,39 +49,16 @@ all-set l o h =
     ∙ ap (λ (r : List ℕ). l ++ r) (drop-of-length-le o {i = 0 + length l} (omega arith))
     ∙ append-nil l
 
-pub fields-of : (s : List ℕ) → length s ≡ wholeSize → Fields s (fieldOf s)
-fields-of s h = record { long = h; are = refl }
+-- what a store of a whole field makes of the fields
+abbrev putField : (ℕ → List ℕ) → ℕ → List ℕ → ℕ → List ℕ
+putField g k l j = cond (eqb j k) l (g j)
 
-within : (s : List ℕ) (g : ℕ → List ℕ) (k : ℕ) → Fields s g → k ≤ lastField → offset k + size k ≤ length s
-within s g k h b = let w = before k (suc lastField) (omega arith) in let l = h .long in omega arith
-
--- what the code's store of a whole field, and of a field of one byte, makes of the fields
-pub field-stored : (s m l : List ℕ) (g : ℕ → List ℕ) (k : ℕ) → Fields s g → k ≤ lastField → length l ≡ size k → m ≡ sets s (offset k) l
-    → Fields m (putField g k l)
-field-stored s m l g k f b n h =
+field-stored : (s m l : List ℕ) (k : ℕ) → offset k + size k ≤ length s → length l ≡ size k → m ≡ sets s (offset k) l → fieldOf m ≡ putField (fieldOf s) k l
+field-stored s m l k b n h =
     let z : offset k ≡ offset k + 0 = omega arith in
-    let w = field-length s k (within s g k f b) in
-    record {
-      long = ap length h ∙ length-sets s (offset k) l ∙ f .long;
-      are =
-          ap fieldOf h ∙ ap (λ (i : ℕ). fieldOf (sets s i l)) z ∙ bytes-put l s k 0 (omega arith)
-          ∙ ap (λ (x : List ℕ). putField (fieldOf s) k x) (all-set l (fieldOf s k) (omega arith))
-          ∙ ap (λ (x : ℕ → List ℕ). putField x k l) (f .are);
-    }
-
-only-byte : (l : List ℕ) (v : ℕ) → length l ≡ 1 → set l 0 v ≡ v ∷ []
-only-byte [] v h = absurd (omega arith)
-only-byte (x ∷ []) v h = refl
-only-byte (x ∷ y ∷ l) v h = absurd (omega arith)
-
-pub byte-stored : (s m : List ℕ) (g : ℕ → List ℕ) (k v : ℕ) → Fields s g → k ≤ lastField → size k ≡ 1 → m ≡ storeIn s (offset k) (size k) 0 v
-    → Fields m (putField g k (v ∷ []))
-byte-stored s m g k v f b z h =
-    let n : length (g k) ≡ 1 = ap (λ (x : ℕ → List ℕ). length (x k)) (sym (f .are)) ∙ field-length s k (within s g k f b) ∙ z in
-    record {
-      long = ap length h ∙ length-store s (offset k) (size k) 0 v ∙ f .long;
-      are = stored s m g k 0 v (f .are) h ∙ ap (λ (x : List ℕ). putField g k x) (only-byte (g k) v n);
-    }
+    let w = field-length s k b in
+    ap fieldOf h ∙ ap (λ (i : ℕ). fieldOf (sets s i l)) z ∙ bytes-put l s k 0 (omega arith)
+    ∙ ap (λ (x : List ℕ). putField (fieldOf s) k x) (all-set l (fieldOf s k) (omega arith))
 
 -- two lists of bytes that are the same up to a field, and in it
 and-field : (m n : List ℕ) (k : ℕ) → take (offset k) m ≡ take (offset k) n → fieldOf m k ≡ fieldOf n k → take (offset (suc k)) m ≡ take (offset (suc k)) n
@@ -176,21 +153,6 @@ becomes-unique s m n f a b p q =
     sym (all-taken m wholeSize (omega arith)) ∙ t
     ∙ all-taken n wholeSize (omega arith)
 
--- A facility by value is stored field by field: the bytes become its.
-pub stored-whole : (s m1 m2 m3 m4 m5 m6 : List ℕ) (f : Facility) → length (f .opens) ≡ mostOpens
-    → Fields m1 (countsPut (fieldOf s) (f .mac) (f .fc) (f .sim) (f .ff) (f .users) (f .entered))
-    → Fields m2 (usersPut (fieldOf m1) (usersIn f)) → Fields m3 (objectsPut (fieldOf m2) (objectsIn f)) → Fields m4 (processesPut (fieldOf m3) (processesIn f))
-    → m5 ≡ sets m4 (offset theOpens) (f .opens) → Becomes m5 m6 (putRefusals (facilityAt m5) (f .refusals))
-    → Becomes s m6 f
-unfolding facilityAt putRefusals
-stored-whole s m1 m2 m3 m4 m5 m6 f n h1 h2 h3 h4 h5 h6 =
-    let e2 = h2 .are ∙ ap (λ (g : ℕ → List ℕ). usersPut g (usersIn f)) (h1 .are) in
-    let e3 = h3 .are ∙ ap (λ (g : ℕ → List ℕ). objectsPut g (objectsIn f)) e2 in
-    let e4 = h4 .are ∙ ap (λ (g : ℕ → List ℕ). processesPut g (processesIn f)) e3 in
-    let f5 = field-stored m4 m5 (f .opens) (fieldOf m4) theOpens (fields-of m4 (h4 .long)) (omega arith) n h5 in
-    let e5 = f5 .are ∙ ap (λ (g : ℕ → List ℕ). putField g theOpens (f .opens)) e4 in
-    (h6 .0 ∙ ap (λ (g : ℕ → List ℕ). putRefusals (facilityOf g) (f .refusals)) e5, h6 .1 ∙ ap paddingIn e5)
-
 -- the opens are lent, and come back changed
 pub opens-lent : (s l : List ℕ) → length s ≡ wholeSize → length l ≡ mostOpens
     → Becomes s (take (offset theOpens) s ++ (l ++ drop mostOpens (drop (offset theOpens) s))) (putOpens (facilityAt s) l)
@@ -201,5 +163,5 @@ opens-lent s l n e =
     ap (λ (r : List ℕ). take (offset theOpens) s ++ (l ++ r)) (drop-drop mostOpens (offset theOpens) s ∙ ap (λ (x : ℕ). drop x s) (sym k))
     ∙ sym (append-assoc (take (offset theOpens) s) l (drop (offset theOpens + length l) s))
     ∙ sym (sets-eq l s (offset theOpens) (omega (arith, n, e))) in
-    let a = field-stored s _ l (fieldOf s) theOpens (fields-of s n) (omega arith) e h .are in
+    let a = field-stored s _ l theOpens (omega (arith, n)) e h in
     (ap (λ (g : ℕ → List ℕ). facilityOf g) a, ap paddingIn a)

@@ -3,5 +3,6 @@ pub mod Stored
 pub mod BytesOfParts
 pub mod Words
 pub mod Changed
+pub mod Cleared
 pub mod Fields
 pub mod Seen

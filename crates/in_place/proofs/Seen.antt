@@ -1,4 +1,4 @@
--- A call comes to the same with the flags that it asks for as with all effective ones.
+-- A call comes to the same with what it asks for as with all that it looks at.
 use Prim.Native.Nat.{ℕ, suc}
 use mathlib.Core.Bool.{Bool, true, false, cond, not}
 use mathlib.Core.Path.{_≡_, refl, _∙_, ap, sym}
@@ -16,31 +16,34 @@ use Rattle.rules.specs.declared.Action.the-variants.{Login, Clone, SendSignal, 
 use Rattle.rules.specs.declared.Class.{Class}
 use Rattle.rules.specs.declared.View.{View}
 use Rattle.rules.specs.FileFlags.{allFlags, forbidding, forbids, has, readOnly, noExecute, noDelete, searchOnly}
-use Rattle.rules.specs.Modules.{answers, macRule, macAnswer, fcAnswer, simAnswer, ffAnswer, ffRule, flagsSeen, viewOf, moved, levelled, signalled}
+use Rattle.modules.specs.Parts.{answersBy, fcAnswerBy, ffAnswerBy, macAlone, macAnswerBy, macRuleBy, movedBy, requestIn, simAnswerBy}
+use Rattle.modules.specs.Laws.Parts.{moved-by}
+use Rattle.requests.specs.declared.Request.{Request}
+use Rattle.rules.specs.Modules.{classIn, ffRule, flagsSeen, levelled, macObject, moved, signalled, viewOf}
 use Rattle.rules.specs.Questions.{openFor, roomFor}
 use Rattle.rules.specs.Requests.{classOf, isCreate, actionOf, alters, writeRequest, executeRequest, deleteRequest, searchRequest, directoryKind}
 use Rattle.rules.specs.Effects.{changeOf}
 use Rattle.questions.specs.Parts.{laterNumber, lateNumber, objectNumber, outcomeBy}
 use Rattle.effects.specs.Changes.{changeBy}
 use Rattle.state.specs.declared.Call.{Call}
-use Rattle.state.specs.declared.Change.{Change}
 use Rattle.state.specs.declared.Change.the-variants.{NoChange, CountRefusal}
 use Rattle.state.specs.declared.Facility.{Facility}
+use Rattle.state.specs.declared.Process.{Process}
 use Rattle.state.specs.State.{objectOf}
-use Rattle.in_place.specs.Seen.{flaggedView, flagsAsked}
+use Rattle.in_place.specs.Seen.{flagsAsked, viewAsked, viewBy}
 
 -- the flags that are asked for, from what was found
-asked-is : (f : Facility) (c : Call) (n kind : ℕ) (k : Class) → kind ≡ objectOf f (c .target) .kind → k ≡ classOf (c .request) kind
+asked-is : (f : Facility) (c : Call) (n kind : ℕ) (k : Class) → kind ≡ objectOf f (c .target) .kind → k ≡ classIn (viewOf f c) c
     → n ≡ forbidding allFlags (c .request) k kind
-    → n ≡ forbidding allFlags (c .request) (classOf (c .request) (objectOf f (c .target) .kind)) (objectOf f (c .target) .kind)
+    → n ≡ forbidding allFlags (c .request) (classIn (viewOf f c) c) (objectOf f (c .target) .kind)
 asked-is f c n kind k q h e =
-    e ∙ ap (λ (x : Class). forbidding allFlags (c .request) x kind) h ∙ ap (λ (x : ℕ). forbidding allFlags (c .request) (classOf (c .request) x) x) q
+    e ∙ ap (λ (x : Class). forbidding allFlags (c .request) x kind) h ∙ ap (λ (x : ℕ). forbidding allFlags (c .request) (classIn (viewOf f c) c) x) q
 
-pub asked-none : (f : Facility) (c : Call) (n kind : ℕ) (k : Class) → kind ≡ objectOf f (c .target) .kind → k ≡ classOf (c .request) kind
+pub asked-none : (f : Facility) (c : Call) (n kind : ℕ) (k : Class) → kind ≡ objectOf f (c .target) .kind → k ≡ classIn (viewOf f c) c
     → n ≡ forbidding allFlags (c .request) k kind → n ≡ 0 → 0 ≡ flagsAsked f c
 asked-none f c n kind k q h e z = rw (sym (asked-is f c n kind k q h e) ∙ z)
 
-pub asked-all : (f : Facility) (c : Call) (n kind m : ℕ) (k : Class) → kind ≡ objectOf f (c .target) .kind → k ≡ classOf (c .request) kind
+pub asked-all : (f : Facility) (c : Call) (n kind m : ℕ) (k : Class) → kind ≡ objectOf f (c .target) .kind → k ≡ classIn (viewOf f c) c
     → n ≡ forbidding allFlags (c .request) k kind → n ≢ 0 → m ≡ flagsSeen f (c .target) → m ≡ flagsAsked f c
 asked-all f c n kind m k q h e z s = rw (ne-eqb _ 0 (λ x. z (asked-is f c n kind k q h e ∙ x)), s)
 
@@ -85,57 +88,68 @@ forbids-same true v request kind k e =
     let z = eqb-true _ 0 e in
     rw (quiet 0 request kind k z, quiet v request kind k z)
 
--- so FF answers the same, and no other module looks at the flags
-ff-same : (k : Action) (f : Facility) (c : Call) → ffAnswer k (flaggedView (viewOf f c) (flagsAsked f c)) c ≡ ffAnswer k (viewOf f c) c
-unfolding ffAnswer ffRule
-ff-same k f c =
-    let v = viewOf f c in
+-- so FF answers the same, and no other module looks at what is looked up; the receiver is looked at for a signal alone
+ff-same : (f : Facility) (c : Call) → ffAnswerBy (requestIn (viewOf f c) c) (viewAsked f c) c ≡ ffAnswerBy (requestIn (viewOf f c) c) (viewOf f c) c
+unfolding ffAnswerBy ffRule
+ff-same f c =
     let kind = objectOf f (c .target) .kind in
     rw (forbids-same _ (flagsSeen f (c .target)) (c .request) kind (classOf (c .request) kind) refl)
 
-mac-same : (k : Action) (v : View) (n : ℕ) (c : Call) → macRule k (flaggedView v n) c ≡ macRule k v c
-unfolding macRule
-mac-same Login v n c = refl
-mac-same Clone v n c = refl
-mac-same SendSignal v n c = refl
-mac-same SetLevel v n c = refl
-mac-same Terminate v n c = refl
-mac-same Create v n c = refl
-mac-same OnObject v n c = refl
-mac-same Unknown v n c = refl
+mac-same : (k : Action) (f : Facility) (c : Call) → macAlone k (viewBy k f c) c ≡ macAlone k (viewOf f c) c
+unfolding macAlone
+mac-same Login f c = refl
+mac-same Clone f c = refl
+mac-same SendSignal f c = refl
+mac-same SetLevel f c = refl
+mac-same Terminate f c = refl
+mac-same Create f c = refl
+mac-same OnObject f c = refl
+mac-same Unknown f c = refl
 
-change-same : (k : Action) (v : View) (n : ℕ) (c : Call) → changeOf k (flaggedView v n) c ≡ changeOf k v c
+change-same : (k : Action) (f : Facility) (c : Call) → changeOf k (viewBy k f c) c ≡ changeOf k (viewOf f c) c
 unfolding moved levelled signalled
-change-same Login v n c = refl
-change-same Clone v n c = refl
-change-same SendSignal v n c = refl
-change-same SetLevel v n c = refl
-change-same Terminate v n c = refl
-change-same Create v n c = refl
-change-same OnObject v n c = refl
-change-same Unknown v n c = refl
+change-same Login f c = refl
+change-same Clone f c = refl
+change-same SendSignal f c = refl
+change-same SetLevel f c = refl
+change-same Terminate f c = refl
+change-same Create f c = refl
+change-same OnObject f c = refl
+change-same Unknown f c = refl
 
--- what a call comes to, by the answers of MAC and FF
-comesTo : Action → View → Call → Answer → Answer → Outcome
-comesTo k v c m x =
-    let a = answersFrom (cond (on (v .switches .mac)) m NotCared) (fcAnswer k v c) (simAnswer k v c) x in
-    let n = objectNumber k v c (lateNumber k v c (a .combined)) in
-    outcomeOf n a (cond (eqb n 0 and isCreate k) (v .entered) noObject)
+-- what a call comes to, by the answers of MAC where no object is needed and of FF
+comesTo : Request → View → Call → Answer → Answer → Outcome
+comesTo q v c m x =
+    let mac = cond (on (v .switches .mac)) (cond (q .object) (macObject (q .class) (v .target .object) (v .caller) (v .owner)) m) NotCared in
+    let a = answersFrom mac (fcAnswerBy q v) (simAnswerBy q v c) x in
+    let n = objectNumber q v c (lateNumber (q .action) v c (a .combined)) in
+    outcomeOf n a (cond (eqb n 0 and isCreate (q .action)) (v .entered) noObject)
 
-outcome-same : (k : Action) (f : Facility) (c : Call)
-    → outcomeBy (laterNumber k (flaggedView (viewOf f c) (flagsAsked f c)) c) k (flaggedView (viewOf f c) (flagsAsked f c)) c
-    ≡ outcomeBy (laterNumber k (viewOf f c) c) k (viewOf f c) c
-unfolding comesTo outcomeBy objectNumber lateNumber answers macAnswer fcAnswer simAnswer openFor roomFor
-outcome-same k f c = λ i. comesTo k (viewOf f c) c (mac-same k (viewOf f c) (flagsAsked f c) c i) (ff-same k f c i)
+outcome-same : (f : Facility) (c : Call)
+    → outcomeBy (laterNumber (requestIn (viewOf f c) c) (viewAsked f c) c) (requestIn (viewOf f c) c) (viewAsked f c) c
+    ≡ outcomeBy (laterNumber (requestIn (viewOf f c) c) (viewOf f c) c) (requestIn (viewOf f c) c) (viewOf f c) c
+unfolding comesTo outcomeBy objectNumber lateNumber answersBy macAnswerBy macRuleBy fcAnswerBy simAnswerBy openFor roomFor
+outcome-same f c = λ i. comesTo (requestIn (viewOf f c) c) (viewOf f c) c (mac-same (actionOf (c .request)) f c i) (ff-same f c i)
 
-pub asked-outcome : (f : Facility) (c : Call) (k : Action) (w : View) (m : ℕ) (o : Outcome) → m ≡ flagsAsked f c → w ≡ flaggedView (viewOf f c) m
-    → o ≡ outcomeBy (laterNumber k w c) k w c → o ≡ outcomeBy (laterNumber k (viewOf f c) c) k (viewOf f c) c
-asked-outcome f c k w m o hm hw h =
-    h ∙ ap (λ (x : View). outcomeBy (laterNumber k x c) k x c) (hw ∙ ap (flaggedView (viewOf f c)) hm) ∙ outcome-same k f c
+pub asked-outcome : (f : Facility) (c : Call) (q : Request) (w : View) (o : Outcome) → q ≡ requestIn (viewOf f c) c → w ≡ viewAsked f c
+    → o ≡ outcomeBy (laterNumber q w c) q w c
+    → o ≡ outcomeBy (laterNumber (requestIn (viewOf f c) c) (viewOf f c) c) (requestIn (viewOf f c) c) (viewOf f c) c
+asked-outcome f c q w o hq hw h =
+    h ∙ (λ i. outcomeBy (laterNumber (hq i) (hw i) c) (hq i) (hw i) c) ∙ outcome-same f c
 
-pub asked-change : (f : Facility) (c : Call) (n : ℕ) (w : View) (m : ℕ) → w ≡ flaggedView (viewOf f c) m → changeBy n w c ≡ changeBy n (viewOf f c) c
+pub asked-change : (f : Facility) (c : Call) (n : ℕ) (w : View) → w ≡ viewAsked f c → changeBy n w c ≡ changeBy n (viewOf f c) c
 unfolding changeBy
-asked-change f c n w m hw =
-    let v = viewOf f c in
+asked-change f c n w hw =
     ap (λ (x : View). changeBy n x c) hw
-    ∙ (λ i. cond (eqb n 0) (change-same (actionOf (c .request)) v m c i) (cond (denies n) (CountRefusal (v .caller .owner)) NoChange))
+    ∙ (λ i. cond (eqb n 0) (change-same (actionOf (c .request)) f c i) (cond (denies n) (CountRefusal (viewOf f c .caller .owner)) NoChange))
+
+-- the class that is known of the request is that of the call
+pub asked-class : (f : Facility) (c : Call) (q : Request) → q ≡ requestIn (viewOf f c) c → q .class ≡ classIn (viewOf f c) c
+asked-class f c q hq = ap (λ (x : Request). x .class) hq
+
+pub asked-class-in : (f : Facility) (c : Call) (q : Request) (w : View) → q ≡ requestIn (viewOf f c) c → w ≡ viewAsked f c → q .class ≡ classIn w c
+asked-class-in f c q w hq hw = asked-class f c q hq ∙ sym (ap (λ (x : View). classIn x c) hw)
+
+-- the caller is moved by it
+pub known-moved : (v : View) (c : Call) (k : Class) (r : Process) → k ≡ classIn v c → r ≡ movedBy k v → r ≡ moved v c
+known-moved v c k r h e = e ∙ ap (λ (x : Class). movedBy x v) h ∙ moved-by v c

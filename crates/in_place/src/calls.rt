@@ -35,9 +35,9 @@ pub(crate) fn query(s: &[u8], c: Call) -> Outcome
     if number != 0 {
         return Outcome::Refused { number };
     }
-    let k = requests::action_of(c.request);
-    let flags = flags_for(s, c);
-    questions::outcome_later(k, view_in(s, c, flags), c)
+    let q = request_in(s, c);
+    let class = q.class;
+    questions::outcome_later(q, view_in(s, class, c), c)
 }
 
 pub(crate) fn enforce(s: &mut [u8], c: Call) -> Outcome
@@ -49,10 +49,10 @@ pub(crate) fn enforce(s: &mut [u8], c: Call) -> Outcome
     if number != 0 {
         return Outcome::Refused { number };
     }
-    let k = requests::action_of(c.request);
-    let flags = flags_for(s, c);
-    let v = view_in(s, c, flags);
-    let outcome = questions::outcome_later(k, v, c);
-    make_by(outcome.number(), v, c, s);
+    let q = request_in(s, c);
+    let class = q.class;
+    let v = view_in(s, class, c);
+    let outcome = questions::outcome_later(q, v, c);
+    make_by(outcome.number(), class, v, c, s);
     outcome
 }

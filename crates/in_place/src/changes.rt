@@ -5,17 +5,20 @@ ghost use Rattle.in_place.specs.Layout.{facilityAt, wholeSize};
 ghost use Rattle.in_place.specs.Stores.{Becomes};
 ghost use Rattle.effects.specs.Changes.{changeBy};
 ghost use Rattle.rules.specs.Effects.{changeOf};
+ghost use Rattle.rules.specs.Modules.{classIn};
 ghost use Rattle.rules.specs.Requests.{actionOf};
-ghost use Rattle.state.specs.State.{addObject, changed, cloned, counted, deleted, openBy, opened, putProcess, terminated};
+ghost use Rattle.state.specs.State.{addObject, addUser, changed, cloned, counted, deleted, openBy, opened, putProcess, terminated};
 use crate::layout::*;
 use crate::readers::*;
 use crate::stores::*;
 use opens::OpenChange;
 use rules::Action;
+use rules::Class;
 use rules::View;
 use state::Call;
 use state::Object;
 use state::Process;
+use state::User;
 
 // Process p terminates.
 pub(crate) fn terminate(s: &mut [u8], p: u8)
@@ -45,7 +48,18 @@ pub(crate) fn delete(s: &mut [u8], t: u8)
     put_in(s, LIVES, OBJECT_COUNT, t as u16, 0);
 }
 
-// The next object number is given to an object, where there is one.
+// The next user number is given to a user, and the next object number to an object, where there is one.
+pub(crate) fn add_user(s: &mut [u8], u: User)
+    requires { ⌜ length (now s) ≡ wholeSize ⌝ }
+    ensures { λ x. ⌜ Becomes (now (s .entry)) (now (s .exit)) (addUser (facilityAt (now (s .entry))) u) ⌝ }
+{
+    let n = byte_in(s, USERS, 1, 0);
+    if (n as u16) < USER_COUNT {
+        put_user(s, n as u16, u);
+        put_in(s, USERS, 1, 0, n + 1);
+    }
+}
+
 pub(crate) fn add_object(s: &mut [u8], o: Object)
     requires { ⌜ length (now s) ≡ wholeSize ⌝ }
     ensures { λ x. ⌜ Becomes (now (s .entry)) (now (s .exit)) (addObject (facilityAt (now (s .entry))) o) ⌝ }
@@ -112,13 +126,13 @@ pub(crate) fn create_object(s: &mut [u8], p: u8, r: Process, o: Object)
     add_object(s, o);
 }
 
-// What an accepted create changes: a file or a directory moves the caller too.
-pub(crate) fn make_create(v: View, c: Call, s: &mut [u8])
-    requires { ⌜ length (now s) ≡ wholeSize ⌝ }
+// What an accepted create of this class changes: a file or a directory moves the caller too.
+pub(crate) fn make_create(class: Class, v: View, c: Call, s: &mut [u8])
+    requires { ⌜ (length (now s) ≡ wholeSize) × (class ≡ classIn v c) ⌝ }
     ensures { λ x. ⌜ Becomes (now (s .entry)) (now (s .exit)) (changed (facilityAt (now (s .entry))) (changeOf Action.Create v c)) ⌝ }
 {
     if requests::in_directory(c.extra) {
-        let r = modules::moved(v, c);
+        let r = modules::moved(class, v);
         let o = effects::created(r, c.extra, c.target);
         create_object(s, c.process, r, o);
         return;
@@ -127,34 +141,34 @@ pub(crate) fn make_create(v: View, c: Call, s: &mut [u8])
     add_object(s, o);
 }
 
-// What an accepted call changes. It is made as it is found: a value of the change would be put together in memory and taken apart again.
-pub(crate) fn make_accepted(v: View, c: Call, s: &mut [u8])
-    requires { ⌜ length (now s) ≡ wholeSize ⌝ }
+// What an accepted call of this class changes. It is made as it is found: a value of the change would be put together in memory and taken apart again.
+pub(crate) fn make_accepted(class: Class, v: View, c: Call, s: &mut [u8])
+    requires { ⌜ (length (now s) ≡ wholeSize) × (class ≡ classIn v c) ⌝ }
     ensures { λ x. ⌜ Becomes (now (s .entry)) (now (s .exit)) (changed (facilityAt (now (s .entry))) (changeOf (actionOf (c .request)) v c)) ⌝ }
 {
     let request = c.request;
     match request {
         rules::CLONE_REQUEST => clone(s, c.process, c.target),
-        rules::CREATE_REQUEST => make_create(v, c, s),
+        rules::CREATE_REQUEST => make_create(class, v, c, s),
         rules::SEND_SIGNAL_REQUEST => put_process(s, c.target, modules::signalled(v)),
         rules::SET_LEVEL_REQUEST => put_process(s, c.process, modules::levelled(v, c)),
         rules::TERMINATE_REQUEST => terminate(s, c.process),
         rules::LOGIN_REQUEST => put_process(s, c.process, Process::fresh(c.extra)),
         effects::NO_REQUEST..=255 => {}
         _ => {
-            let r = modules::moved(v, c);
+            let r = modules::moved(class, v);
             use_object(s, c.process, r, c.target, requests::open_change(c.request));
         }
     }
 }
 
-// What a call with this number changes.
-pub(crate) fn make_by(number: u8, v: View, c: Call, s: &mut [u8])
-    requires { ⌜ length (now s) ≡ wholeSize ⌝ }
+// What a call of this class with this number changes.
+pub(crate) fn make_by(number: u8, class: Class, v: View, c: Call, s: &mut [u8])
+    requires { ⌜ (length (now s) ≡ wholeSize) × (class ≡ classIn v c) ⌝ }
     ensures { λ x. ⌜ Becomes (now (s .entry)) (now (s .exit)) (changed (facilityAt (now (s .entry))) (changeBy number v c)) ⌝ }
 {
     if number == 0 {
-        make_accepted(v, c, s);
+        make_accepted(class, v, c, s);
         return;
     }
     if answers::is_denial(number) {

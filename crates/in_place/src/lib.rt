@@ -6,7 +6,7 @@ ghost use Rattle.rules.specs.Calls.{after, query};
 ghost use Rattle.rules.specs.FileFlags.{effective, flagSource};
 ghost use Rattle.rules.specs.Modules.{viewOf};
 ghost use Rattle.rules.specs.Setup.{writeSetup};
-ghost use Rattle.state.specs.State.{objectOf, objectsIn, opensOf, processOf, refusalsOf, switchesOf, userOf};
+ghost use Rattle.state.specs.State.{addObject, addUser, blank, objectOf, objectsIn, opensOf, processOf, refusalsOf, switchesOf, userOf};
 
 mod calls;
 mod changes;
@@ -20,7 +20,6 @@ use answers::Outcome;
 use answers::WriteOutcome;
 use rules::View;
 use state::Call;
-use state::Facility;
 use state::Object;
 use state::Process;
 use state::Switches;
@@ -51,10 +50,23 @@ pub fn enforce_in(s: &mut [u8; SIZE], c: Call) -> Outcome
     calls::enforce(s, c)
 }
 
-pub fn store_in(f: Facility, s: &mut [u8; SIZE])
-    ensures { λ x. ⌜ Becomes (now (s .entry)) (now (s .exit)) f ⌝ }
+// The bytes become those of the blank facility of these switches; a user more, and an object more, where there is room.
+pub fn blank_in(s: &mut [u8; SIZE], switches: Switches)
+    ensures { λ x. ⌜ Becomes (now (s .entry)) (now (s .exit)) (blank switches) ⌝ }
 {
-    setups::store(f, s);
+    stores::blank(s, switches);
+}
+
+pub fn add_user_in(s: &mut [u8; SIZE], u: User)
+    ensures { λ x. ⌜ Becomes (now (s .entry)) (now (s .exit)) (addUser (facilityAt (now (s .entry))) u) ⌝ }
+{
+    changes::add_user(s, u);
+}
+
+pub fn add_object_in(s: &mut [u8; SIZE], o: Object)
+    ensures { λ x. ⌜ Becomes (now (s .entry)) (now (s .exit)) (addObject (facilityAt (now (s .entry))) o) ⌝ }
+{
+    changes::add_object(s, o);
 }
 
 // The process of a number.
@@ -118,6 +130,13 @@ pub fn source_of(s: &[u8; SIZE], t: u8, flag: u8) -> u8
     ensures { λ r. ⌜ r ≡ flagSource (objectsIn (facilityAt (now (s .entry)))) t flag ⌝ }
 {
     readers::source_in(s, t, flag)
+}
+
+// The kinds of all objects.
+pub fn kinds_of(s: &[u8; SIZE]) -> &[u8]
+    ensures { λ r. ⌜ now r ≡ facilityAt (now (s .entry)) .kinds ⌝ }
+{
+    readers::lent(s, layout::KINDS, layout::OBJECT_COUNT)
 }
 
 // What a call looks at.

@@ -1,14 +1,16 @@
 // Stores into the bytes of a facility.
-ghost use Prim.Native.Nat.{_<_};
+ghost use Prim.Native.Nat.{_<_, _≤_};
 ghost use mathlib.Core.Path.{_≡_};
 ghost use lib.ListN.{length, set};
 ghost use Rattle.in_place.specs.Layout.{facilityAt, fieldOf, wholeSize};
-ghost use Rattle.in_place.specs.Stores.{storeObject, Becomes, storeIn};
+ghost use Rattle.in_place.specs.Stores.{Becomes, cleared, storeIn, storeObject, storeUser};
 ghost use Rattle.opens.specs.Opens.{closeObject, closeProcess, copyProcess};
-ghost use Rattle.state.specs.State.{mostUsers, putMarks, putOpens, putProcess, putRefusals};
+ghost use Rattle.state.specs.State.{blank, mostUsers, putMarks, putOpens, putProcess, putRefusals};
 use crate::layout::*;
 use state::Object;
 use state::Process;
+use state::Switches;
+use state::User;
 
 // Byte i of the n bytes from a place on becomes v; nothing where there is no such byte.
 pub(crate) fn put_in(s: &mut [u8], from: u16, n: u16, i: u16, v: u8)
@@ -22,6 +24,42 @@ pub(crate) fn put_in(s: &mut [u8], from: u16, n: u16, i: u16, v: u8)
         return;
     }
     s[q] = v;
+}
+
+// The bytes from a place to another become 0. The loop tests nothing but its end, so that it stores many at a time.
+pub(crate) fn clear(s: &mut [u8], from: u16, to: u16)
+    requires { ⌜ (from ≤ to) × (to ≤ length (now s)) ⌝ }
+    ensures { λ r. ⌜ now (s .exit) ≡ cleared (now (s .entry)) from to ⌝ }
+{
+    let end = to as usize;
+    let mut i = from as usize;
+    while i < end {
+        s[i] = 0;
+        i += 1;
+    }
+}
+
+// No user, no object, no process, no refusal, and these switches.
+pub(crate) fn blank(s: &mut [u8], switches: Switches)
+    requires { ⌜ length (now s) ≡ wholeSize ⌝ }
+    ensures { λ x. ⌜ Becomes (now (s .entry)) (now (s .exit)) (blank switches) ⌝ }
+{
+    clear(s, MAC, PADDING);
+    clear(s, REFUSALS, LAST_PADDING);
+    put_in(s, MAC, 1, 0, switches.mac);
+    put_in(s, FC, 1, 0, switches.fc);
+    put_in(s, SIM, 1, 0, switches.sim);
+    put_in(s, FF, 1, 0, switches.ff);
+}
+
+// The attributes of user i.
+pub(crate) fn put_user(s: &mut [u8], i: u16, u: User)
+    ensures { λ x. ⌜ fieldOf (now (s .exit)) ≡ storeUser (fieldOf (now (s .entry))) i u ⌝ }
+{
+    put_in(s, CLEARANCES, USER_COUNT, i, u.clearance.level);
+    put_in(s, ROLES, USER_COUNT, i, u.role);
+    put_in(s, TRUSTS, USER_COUNT, i, u.trusted);
+    put_in(s, CLEARANCE_SETS, USER_COUNT, i, u.clearance.set);
 }
 
 // Process p becomes r.

@@ -1,13 +1,12 @@
 // What the modules answer, and MAC's moves of the caller and of a signal's receiver.
-ghost use mathlib.Core.Bool.{false};
 ghost use mathlib.Core.Path.{_≡_};
-ghost use Rattle.rules.specs.Modules.{answers, classIn, fcAnswer, fcRule, ffAnswer, ffRule, levelled, macAnswer, macClass, macObject, macRule};
-ghost use Rattle.rules.specs.Modules.{macSignal, mayRead, maySet, mayWrite, moveBy, moved, movedTo, movesTo, readMarkRaised, setLevel, signalled};
-ghost use Rattle.rules.specs.Modules.{simAnswer, simRule, wanted};
-ghost use Rattle.rules.specs.Requests.{needsObject};
+ghost use Rattle.modules.specs.Parts.{answersBy, fcAnswerBy, ffAnswerBy, macAlone, macAnswerBy, macRuleBy, movedBy, simAnswerBy};
+ghost use Rattle.rules.specs.Modules.{classIn, fcRule, ffRule, levelled, macClass, macObject, macSignal, mayRead, maySet, mayWrite, moveBy};
+ghost use Rattle.rules.specs.Modules.{movedTo, movesTo, readMarkRaised, setLevel, signalled, simRule, wanted};
 use answers::Answer;
 use answers::Answers;
 use labels::Label;
+use requests::Request;
 use rules::Action;
 use rules::Class;
 use rules::View;
@@ -183,13 +182,6 @@ pub fn class_in(v: View, c: Call) -> Class
     requests::class_of(c.request, v.target.object.kind)
 }
 
-// MAC on an object target.
-fn mac_target(v: View, c: Call) -> Answer
-    ensures { λ x. ⌜ x ≡ macObject (classIn v c) (v .target .object) (v .caller) (v .owner) ⌝ }
-{
-    mac_object(class_in(v, c), v.target.object, v.caller, v.owner)
-}
-
 // The label that set-level asks for: the level e, and the set from t.
 fn wanted(c: Call) -> Label
     ensures { λ x. ⌜ x ≡ wanted c ⌝ }
@@ -198,15 +190,14 @@ fn wanted(c: Call) -> Label
 }
 
 fn mac_set_level(v: View, c: Call) -> Answer
-    ensures { λ x. ⌜ x ≡ macRule Action.SetLevel v c ⌝ }
+    ensures { λ x. ⌜ x ≡ macAlone Action.SetLevel v c ⌝ }
 {
     Answer::grant(may_set(wanted(c), v.caller, v.owner.clearance))
 }
 
-// MAC's rule for a request that needs no object.
-fn mac_without_object(k: Action, v: View, c: Call) -> Answer
-    requires { ⌜ needsObject k (c .extra) ≡ false ⌝ }
-    ensures { λ x. ⌜ x ≡ macRule k v c ⌝ }
+// MAC's rule where no object is needed.
+fn mac_alone(k: Action, v: View, c: Call) -> Answer
+    ensures { λ x. ⌜ x ≡ macAlone k v c ⌝ }
 {
     match k {
         Action::Login => Answer::Granted,
@@ -221,72 +212,73 @@ fn mac_without_object(k: Action, v: View, c: Call) -> Answer
 }
 
 // MAC's rule.
-fn mac_rule(k: Action, v: View, c: Call) -> Answer
-    ensures { λ x. ⌜ x ≡ macRule k v c ⌝ }
+fn mac_rule(q: Request, v: View, c: Call) -> Answer
+    ensures { λ x. ⌜ x ≡ macRuleBy q v c ⌝ }
 {
-    if requests::needs_object(k, c.extra) {
-        return mac_target(v, c);
+    let k = q.action;
+    let class = q.class;
+    if q.object {
+        return mac_object(class, v.target.object, v.caller, v.owner);
     }
-    mac_without_object(k, v, c)
+    mac_alone(k, v, c)
 }
 
-// The answers of the modules: one that is off does not care.
-fn mac_answer(k: Action, v: View, c: Call) -> Answer
-    ensures { λ x. ⌜ x ≡ macAnswer k v c ⌝ }
+// The answers of the modules by what is known of the request: one that is off does not care.
+fn mac_answer(q: Request, v: View, c: Call) -> Answer
+    ensures { λ x. ⌜ x ≡ macAnswerBy q v c ⌝ }
 {
     if v.switches.mac == 1 {
-        return mac_rule(k, v, c);
+        return mac_rule(q, v, c);
     }
     Answer::NotCared
 }
 
-fn fc_answer(k: Action, v: View, c: Call) -> Answer
-    ensures { λ x. ⌜ x ≡ fcAnswer k v c ⌝ }
+fn fc_answer(q: Request, v: View) -> Answer
+    ensures { λ x. ⌜ x ≡ fcAnswerBy q v ⌝ }
 {
-    let target = requests::needs_object(k, c.extra);
-    if (v.switches.fc == 1) & target {
+    if (v.switches.fc == 1) & q.object {
         return fc_rule(v.target.object, v.owner);
     }
     Answer::NotCared
 }
 
-fn sim_answer(k: Action, v: View, c: Call) -> Answer
-    ensures { λ x. ⌜ x ≡ simAnswer k v c ⌝ }
+fn sim_answer(q: Request, v: View, c: Call) -> Answer
+    ensures { λ x. ⌜ x ≡ simAnswerBy q v c ⌝ }
 {
-    let target = requests::needs_object(k, c.extra);
-    if (v.switches.sim == 1) & target {
-        return sim_rule(c.request, class_in(v, c), v.target.object, v.owner);
+    let k = q.class;
+    if (v.switches.sim == 1) & q.object {
+        return sim_rule(c.request, k, v.target.object, v.owner);
     }
     Answer::NotCared
 }
 
-fn ff_answer(k: Action, v: View, c: Call) -> Answer
-    ensures { λ x. ⌜ x ≡ ffAnswer k v c ⌝ }
+fn ff_answer(q: Request, v: View, c: Call) -> Answer
+    ensures { λ x. ⌜ x ≡ ffAnswerBy q v c ⌝ }
 {
-    let target = requests::needs_object(k, c.extra);
-    if (v.switches.ff == 1) & target {
-        return ff_rule(c.request, class_in(v, c), v.target.object, v.target.flags);
+    let k = q.class;
+    if (v.switches.ff == 1) & q.object {
+        return ff_rule(c.request, k, v.target.object, v.looked.flags);
     }
     Answer::NotCared
 }
 
-pub fn answers(k: Action, v: View, c: Call) -> Answers
-    ensures { λ x. ⌜ x ≡ answers k v c ⌝ }
+pub fn answers(q: Request, v: View, c: Call) -> Answers
+    ensures { λ x. ⌜ x ≡ answersBy q v c ⌝ }
 {
     Answers::of(
-        mac_answer(k, v, c),
-        fc_answer(k, v, c),
-        sim_answer(k, v, c),
-        ff_answer(k, v, c),
+        mac_answer(q, v, c),
+        fc_answer(q, v),
+        sim_answer(q, v, c),
+        ff_answer(q, v, c),
     )
 }
 
-// The caller after an accepted call on an object.
-pub fn moved(v: View, c: Call) -> Process
-    ensures { λ x. ⌜ x ≡ moved v c ⌝ }
+// The caller after an accepted call on an object, which is of class k.
+pub fn moved(k: Class, v: View) -> Process
+    ensures { λ x. ⌜ x ≡ movedBy k v ⌝ }
 {
     if (v.switches.mac == 1) & !(v.owner.trusted == 1) {
-        return move_by(class_in(v, c), v.target.object.label, v.caller);
+        return move_by(k, v.target.object.label, v.caller);
     }
     v.caller
 }

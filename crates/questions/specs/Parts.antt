@@ -1,4 +1,4 @@
--- The ordered questions in three parts, as the code asks them.
+-- The ordered questions in three parts, as the code asks them, by what is known of the request.
 use Prim.Native.Nat.{ℕ}
 use mathlib.Core.Bool.{not, cond}
 use lib.Dec.{leb, ltb, eqb}
@@ -10,9 +10,10 @@ use Rattle.answers.specs.Answers.{isNotGranted, isUndefined}
 use Rattle.rules.specs.declared.Action.{Action}
 use Rattle.rules.specs.declared.View.{View}
 use Rattle.rules.specs.declared.Runs.{Runs}
-use Rattle.rules.specs.Requests.{isSetLevel, isAbsent, isNoCondition, isCreate, needsObject, lastRequest, isLogin, actionOf, lastKind}
+use Rattle.requests.specs.declared.Request.{Request}
+use Rattle.rules.specs.Requests.{isSetLevel, isAbsent, isNoCondition, isCreate, lastRequest, isLogin, actionOf, lastKind}
 use Rattle.rules.specs.Questions.{roomFor, openFor, inRange, isRunning, isFree, numberBy}
-use Rattle.rules.specs.Modules.{classIn, answers}
+use Rattle.modules.specs.Parts.{answersBy, requestIn}
 use Rattle.answers.specs.declared.Outcome.{Outcome}
 use Rattle.answers.specs.Outcomes.{noObject, outcomeOf}
 
@@ -25,12 +26,12 @@ lateNumber k v c a =
     (ask (not (isUndefined a)) 13 0)))
 
 -- questions 8, 6, 7 and 9, and then the later ones
-unfoldable pub objectNumber : Action → View → Call → ℕ → ℕ
-objectNumber k v c later =
-    ask (asked (isCreate k) (leb (c .extra) lastKind)) 8
-    (ask (asked (needsObject k (c .extra)) (on (v .target .object .live))) 6
-    (ask (asked (needsObject k (c .extra)) (not (isAbsent (classIn v c)))) 7
-    (ask (asked (needsObject k (c .extra)) (asked (isNoCondition (classIn v c)) (openFor v c))) 9 later)))
+unfoldable pub objectNumber : Request → View → Call → ℕ → ℕ
+objectNumber q v c later =
+    ask (asked (isCreate (q .action)) (leb (c .extra) lastKind)) 8
+    (ask (asked (q .object) (on (v .target .object .live))) 6
+    (ask (asked (q .object) (not (isAbsent (q .class)))) 7
+    (ask (asked (q .object) (asked (isNoCondition (q .class)) (openFor v c))) 9 later)))
 
 -- questions 1 to 5, and then the later ones
 unfoldable pub processNumber : Action → Runs → Call → ℕ → ℕ
@@ -42,13 +43,13 @@ processNumber k r c later =
     (ask (asked (isLogin k) (ltb (c .extra) (r .users))) 5 later))))
 
 -- questions 6 to 13
-abbrev pub laterNumber : Action → View → Call → ℕ
-laterNumber k v c = objectNumber k v c (lateNumber k v c (answers k v c .combined))
+abbrev pub laterNumber : Request → View → Call → ℕ
+laterNumber q v c = objectNumber q v c (lateNumber (q .action) v c (answersBy q v c .combined))
 
 -- what a call with this number comes to
-unfoldable pub outcomeBy : ℕ → Action → View → Call → Outcome
-outcomeBy n k v c = outcomeOf n (answers k v c) (cond (eqb n 0 and isCreate k) (v .entered) noObject)
+unfoldable pub outcomeBy : ℕ → Request → View → Call → Outcome
+outcomeBy n q v c = outcomeOf n (answersBy q v c) (cond (eqb n 0 and isCreate (q .action)) (v .entered) noObject)
 
 -- what a call comes to, by what it looks at
 unfoldable pub outcomeIn : View → Call → Outcome
-outcomeIn v c = outcomeBy (numberBy (actionOf (c .request)) v c) (actionOf (c .request)) v c
+outcomeIn v c = outcomeBy (numberBy (actionOf (c .request)) v c) (requestIn v c) v c

@@ -3,13 +3,14 @@ ghost use mathlib.Core.Path.{_≡_};
 ghost use mathlib.Core.Bool.{cond};
 ghost use lib.Dec.{eqb};
 ghost use Rattle.questions.specs.Parts.{lateNumber, laterNumber, objectNumber, outcomeBy, outcomeIn, processNumber};
-ghost use Rattle.rules.specs.Modules.{answers};
+ghost use Rattle.modules.specs.Parts.{answersBy};
 ghost use Rattle.rules.specs.Questions.{inRange, isFree, isRunning, runsOf, openFor, roomFor};
 ghost use Rattle.rules.specs.Requests.{isCreate, actionOf};
 ghost use Rattle.labels.specs.Decisions.{_and_, ask, asked};
 ghost use Rattle.answers.specs.Outcomes.{noObject};
 use answers::Answer;
 use answers::Outcome;
+use requests::Request;
 use rules::Action;
 use rules::Runs;
 use rules::View;
@@ -87,11 +88,12 @@ fn late_number(k: Action, v: View, c: Call, combined: Answer) -> u8
 }
 
 // Questions 8, 6, 7 and 9, and then the later ones.
-fn object_number(k: Action, v: View, c: Call, later: u8) -> u8
-    ensures { λ r. ⌜ r ≡ objectNumber k v c later ⌝ }
+fn object_number(q: Request, v: View, c: Call, later: u8) -> u8
+    ensures { λ r. ⌜ r ≡ objectNumber q v c later ⌝ }
 {
-    let class = modules::class_in(v, c);
-    let target = requests::needs_object(k, c.extra);
+    let k = q.action;
+    let class = q.class;
+    let target = q.object;
     let open = only_if(requests::is_no_condition(class), open_for(v, c));
     let n9 = labels::ask(only_if(target, open), 9, later);
     let n7 = labels::ask(only_if(target, !requests::is_absent(class)), 7, n9);
@@ -129,24 +131,25 @@ fn object_given(number: u8, k: Action, entered: u8) -> u8
 }
 
 // What a call comes to that no question before the tenth refuses.
-fn judged(k: Action, v: View, c: Call) -> Outcome
-    ensures { λ r. ⌜ r ≡ outcomeBy (lateNumber k v c (answers k v c .combined)) k v c ⌝ }
+fn judged(q: Request, v: View, c: Call) -> Outcome
+    ensures { λ r. ⌜ r ≡ outcomeBy (lateNumber (q .action) v c (answersBy q v c .combined)) q v c ⌝ }
 {
-    let answers = modules::answers(k, v, c);
+    let k = q.action;
+    let answers = modules::answers(q, v, c);
     let combined = answers.combined;
     let number = late_number(k, v, c, combined);
     Outcome::of(number, answers, object_given(number, k, v.entered))
 }
 
 // What a call comes to that no question before the sixth refuses. The modules are asked only where no question before the tenth does.
-pub fn outcome_later(k: Action, v: View, c: Call) -> Outcome
-    ensures { λ r. ⌜ r ≡ outcomeBy (laterNumber k v c) k v c ⌝ }
+pub fn outcome_later(q: Request, v: View, c: Call) -> Outcome
+    ensures { λ r. ⌜ r ≡ outcomeBy (laterNumber q v c) q v c ⌝ }
 {
-    let number = object_number(k, v, c, 0);
+    let number = object_number(q, v, c, 0);
     if number != 0 {
         return Outcome::Refused { number };
     }
-    judged(k, v, c)
+    judged(q, v, c)
 }
 
 // What questions 1 to 5 look at.
@@ -168,5 +171,6 @@ pub fn outcome_in(v: View, c: Call) -> Outcome
     if number != 0 {
         return Outcome::Refused { number };
     }
-    outcome_later(requests::action_of(c.request), v, c)
+    let q = requests::request_of(c.request, v.target.object.kind, c.extra);
+    outcome_later(q, v, c)
 }

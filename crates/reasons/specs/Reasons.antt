@@ -131,7 +131,7 @@ dataTypeFailed k v c =
 unfoldable pub flagFailed : Action → View → Call → ℕ
 flagFailed k v c =
     cond (on (v .switches .ff) and needsObject k (c .extra))
-    (forbidding (v .target .flags) (c .request) (classIn v c) (v .target .object .kind)) 0
+    (forbidding (v .looked .flags) (c .request) (classIn v c) (v .target .object .kind)) 0
 
 -- all conditions that failed of a call that the modules judge, k being what the request acts on
 unfoldable pub failedIn : Action → View → Call → Failed

@@ -193,7 +193,7 @@ fn flag_failed(k: Action, v: View, c: Call) -> u8
     let target = requests::needs_object(k, c.extra);
     if (v.switches.ff == 1) & target {
         return flags::forbidding(
-            v.target.flags,
+            v.looked.flags,
             c.request,
             modules::class_in(v, c),
             v.target.object.kind,

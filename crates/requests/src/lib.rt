@@ -3,11 +3,19 @@ ghost use Prim.Native.Nat.{_<_, _≤_};
 ghost use mathlib.Core.Bool.{true};
 ghost use mathlib.Core.Path.{_≡_};
 ghost use Rattle.requests.specs.ClassCodes.{classNamed, wordRight};
+ghost use Rattle.requests.specs.Request.{requestOf};
 ghost use Rattle.rules.specs.Requests.{classCode, isOnObject, alters, classOf, inDirectory, isAbsent, isCreate, isNoCondition, needsObject, openChange};
 ghost use Rattle.rules.specs.Requests.{actionOf, isClone, actionCode, isLogin, isSendSignal, isSetLevel, lastKind, lastRequest};
 use opens::OpenChange;
 use rules::Action;
 use rules::Class;
+
+// What is known of a call's request: what it acts on, whether it needs an object, and its class by the kind of its object.
+pub struct Request {
+    pub action: Action,
+    pub object: bool,
+    pub class: Class,
+}
 
 // The last request number.
 pub const LAST: u8 = rules::LAST_REQUEST;
@@ -95,16 +103,20 @@ fn code_at(request: u8, kind: u8) -> u64
     (word >> place) % 8
 }
 
+// By halves: a test of each code in turn would be compiled to a jump that the processor cannot foresee.
 fn class_named(code: u64) -> Class
     ensures { λ r. ⌜ r ≡ classNamed code ⌝ }
 {
-    if code == R {
-        return Class::Reads;
+    if code <= R {
+        if code == R {
+            return Class::Reads;
+        }
+        return Class::Absent;
     }
-    if code == W {
-        return Class::Writes;
-    }
-    if code == B {
+    if code <= B {
+        if code == W {
+            return Class::Writes;
+        }
         return Class::Both;
     }
     if code == N {
@@ -222,6 +234,20 @@ pub fn needs_object(k: Action, extra: u8) -> bool
         in_directory(extra)
     } else {
         is_on_object(k)
+    }
+}
+
+// What is known of a request by the kind of its object, and by `extra`; found once for a call.
+pub fn request_of(request: u8, kind: u8, extra: u8) -> Request
+    ensures { λ r. ⌜ r ≡ requestOf request kind extra ⌝ }
+{
+    let action = action_of(request);
+    let object = needs_object(action, extra);
+    let class = class_of(request, kind);
+    Request {
+        action,
+        object,
+        class,
     }
 }
 

@@ -1,6 +1,7 @@
 -- "What the modules answer": MAC, FC, SIM and FF on what a call looks at, and MAC's moves of the caller and of a signal's receiver.
 pub use Rattle.rules.specs.declared.View.{View}
 pub use Rattle.rules.specs.declared.Target.{Target}
+pub use Rattle.rules.specs.declared.Looked.{Looked}
 use Prim.Native.Nat.{ℕ}
 use mathlib.Core.Bool.{Bool, not, cond}
 use lib.Dec.{eqb}
@@ -14,20 +15,23 @@ use Rattle.rules.specs.FileFlags.{effective, forbids}
 use Rattle.rules.specs.Requests.{Action, Login, Clone, SendSignal, SetLevel, Terminate, Create, OnObject, Unknown, Class, Absent, Reads, Writes}
 use Rattle.rules.specs.Requests.{Both, NoCondition, classOf, alters, inDirectory, needsObject, writeRequest}
 
--- what FF looks at, where it is on
-abbrev pub flagsSeen : Facility → ℕ → ℕ
-flagsSeen f t = cond (on (f .ff)) (effective (objectsIn f) t) 0
-
--- the target of process p: t as a process and as an object, how p has it open, its effective flags, and the owner of t as a process
+-- the target of process p: t as a process and as an object, how p has it open, and the owner of t as a process
 abbrev pub targetOf : Facility → ℕ → ℕ → Target
 targetOf f p t =
     record {
       receiver = processOf f t;
       object = objectOf f t;
       opens = opensOf f p t;
-      flags = flagsSeen f t;
       owner = userOf f ((processOf f t) .owner);
     }
+
+-- what FF looks at, where it is on
+abbrev pub flagsSeen : Facility → ℕ → ℕ
+flagsSeen f t = cond (on (f .ff)) (effective (objectsIn f) t) 0
+
+-- what the modules look up in tables for a call
+abbrev pub lookedOf : Facility → Call → Looked
+lookedOf f c = record { flags = flagsSeen f (c .target) }
 
 -- what a call looks at
 abbrev pub viewOf : Facility → Call → View
@@ -39,6 +43,7 @@ viewOf f c =
       caller = processOf f (c .process);
       owner = userOf f ((processOf f (c .process)) .owner);
       target = targetOf f (c .process) (c .target);
+      looked = lookedOf f c;
     }
 
 -- the class of a call by the kind of its object
@@ -130,7 +135,7 @@ simAnswer k v c =
 
 unfoldable pub ffAnswer : Action → View → Call → Answer
 ffAnswer k v c =
-    cond (on (v .switches .ff) and needsObject k (c .extra)) (ffRule (c .request) (classIn v c) (v .target .object) (v .target .flags)) NotCared
+    cond (on (v .switches .ff) and needsObject k (c .extra)) (ffRule (c .request) (classIn v c) (v .target .object) (v .looked .flags)) NotCared
 
 unfoldable pub answers : Action → View → Call → Answers
 answers k v c = answersFrom (macAnswer k v c) (fcAnswer k v c) (simAnswer k v c) (ffAnswer k v c)

@@ -39,7 +39,7 @@ pub record SameToSim (v w : View) : Type 0 where
 pub record SameToFf (v w : View) : Type 0 where
   pub switch : w .switches .ff ≡ v .switches .ff
   pub kind : w .target .object .kind ≡ v .target .object .kind
-  pub flags : w .target .flags ≡ v .target .flags
+  pub flags : w .looked .flags ≡ v .looked .flags
 
 -- Of a call MAC looks at all but the process number; FC at whether an object is needed alone; SIM and FF at that and at the request.
 pub record ModulesApart : Type 0 where

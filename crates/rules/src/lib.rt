@@ -108,17 +108,20 @@ pub struct Runs {
     pub receiver: u8,
 }
 
-// What a call's target is: as a process and as an object, how the caller has it open, its effective flags where FF is on, and the owner of it
-// as a process (a signal's receiver).
+// What a call's target is: as a process and as an object, how the caller has it open, and the owner of it as a process (a signal's receiver).
 pub struct Target {
     pub receiver: Process,
     pub object: Object,
     pub opens: u8,
-    pub flags: u8,
     pub owner: User,
 }
 
-// What a call looks at: the switches, the counts, the caller and its owner, and the target.
+// What the modules look up in tables: the effective flags of the target, where FF is on.
+pub struct Looked {
+    pub flags: u8,
+}
+
+// What a call looks at: the switches, the counts, the caller and its owner, the target, and what the modules look up.
 pub struct View {
     pub switches: Switches,
     pub users: u8,
@@ -126,6 +129,7 @@ pub struct View {
     pub caller: Process,
     pub owner: User,
     pub target: Target,
+    pub looked: Looked,
 }
 
 // What a byte of a set-up record may be: 0 alone; 0 up to a number; that, or 255, which is unset; or bits of a number alone.

@@ -13,7 +13,7 @@ use borrow.Author.Tests.{lt-ltb, ltb-true}
 use Rattle.labels.specs.Decisions.{at}
 use Rattle.state.specs.declared.Facility.{Facility}
 use Rattle.rules.specs.Histories.{run}
-use Rattle.rules.specs.Lines.{callLines, callsOf, output, printed, shortLine}
+use Rattle.rules.specs.Lines.{callLines, callsOf, printed, shortLine}
 use Rattle.rules.specs.Setup.{readSetup}
 use Rattle.rules.specs.Text.{ascii}
 use Rattle.history.specs.Laws.CallBytes.{no-calls}

@@ -1,16 +1,42 @@
 // The run program of document 01: reads `setup.bin` and calls from standard input, and prints a line for each call. Each read is answered at once
 // with the lines of the calls that it completed. What cannot be read or written ends the program, and is told on standard error.
 ghost use Prim.Native.Nat.{_<_, _^_};
+ghost use mathlib.Core.Path.{_≡_};
+ghost use lib.ListN.{take};
+ghost use Rattle.console.specs.Files.{WholeFile};
+ghost use Rattle.in_place.specs.Stores.{Becomes};
+ghost use Rattle.rules.specs.Setup.{readSetup};
 ghost use Rattle.run.specs.AllReads.{Turn};
 use answers::SetupOutcome;
 use console::Input;
 use console::Kept;
-use state::Facility;
 
 // More reads, and more calls, than there can be: a proved loop has to end.
 const READS: u64 = 1 << 53;
 
 const CALLS: u64 = 1 << 62;
+
+// What was read of the set-up: what it came to, how many bytes it has, and what the system said of the last read.
+struct SetupRead {
+    outcome: SetupOutcome,
+    count: usize,
+    said: isize,
+}
+
+// Reads the set-up into the bytes of a facility.
+fn read_setup(bytes: &mut [u8], f: &mut [u8; in_place::SIZE]) -> SetupRead
+    ensures { λ r. ⌜ WholeFile (now (bytes .exit)) (r .count) (r .said) ⌝ }
+    ensures { λ r. ⌜ r .outcome ≡ (readSetup (take (r .count) (now (bytes .exit)))) .outcome ⌝ }
+    ensures { λ r. ⌜ Becomes (now (f .entry)) (now (f .exit)) ((readSetup (take (r .count) (now (bytes .exit)))) .facility) ⌝ }
+{
+    let got = console::read_setup_bytes(bytes);
+    let count = got.total;
+    SetupRead {
+        outcome: setup_in_place::read_in(&bytes[..count], f),
+        count,
+        said: got.said,
+    }
+}
 
 // After a read: how many calls are done, what was read, how many bytes the lines have and how many of them were written, and whether more is to be read.
 struct After {
@@ -56,11 +82,9 @@ fn turn(
 }
 
 // The buffer has 4,096 bytes, which are 1,024 calls of at most 49 bytes of text each: 65,536 bytes hold their lines.
-fn run(start: Facility) {
+fn run(f: &mut [u8; in_place::SIZE]) {
     let mut bytes = io::buffer();
     let mut out = io::large_buffer();
-    let mut f = [0u8; in_place::SIZE];
-    in_place::store_in(start, &mut f);
     let mut done: u64 = 0;
     let mut kept = console::nothing_kept();
     let mut k: u64 = 0;
@@ -68,7 +92,7 @@ fn run(start: Facility) {
         if done >= CALLS {
             return;
         }
-        let t = turn(&mut f, done, &mut bytes, kept, &mut out);
+        let t = turn(f, done, &mut bytes, kept, &mut out);
         if !t.more {
             return;
         }
@@ -87,12 +111,11 @@ fn refuse(number: u8, index: u16) {
 
 fn main() {
     let mut bytes = io::large_buffer();
-    let read = console::read_setup(&mut bytes);
-    let reading = read.reading;
-    let f = reading.facility;
-    let outcome = reading.outcome;
+    let mut f = [0u8; in_place::SIZE];
+    let read = read_setup(&mut bytes, &mut f);
+    let outcome = read.outcome;
     match outcome {
-        SetupOutcome::Accepted => run(f),
+        SetupOutcome::Accepted => run(&mut f),
         SetupOutcome::Refused { number, index } => refuse(number, index),
     }
 }

@@ -1,12 +1,12 @@
 // Set-ups: reading one from bytes.
-ghost use Prim.Native.Nat.{_*_, _<_};
+ghost use Prim.Native.Nat.{_*_, _≤_};
 ghost use mathlib.Core.List.{[]};
 ghost use mathlib.Core.Path.{_≡_};
-ghost use lib.ListN.{drop};
+ghost use lib.ListN.{length};
 ghost use Rattle.rules.specs.Kinds.{allowedBy, alsoAllowed, byteAllowed, kindOf, noKind, objectsKind, switchesKind, usersKind};
 ghost use Rattle.rules.specs.Setup.{allowedLength, enterAll, enterRecord, firstRecord, objectEntered, readSetup};
 ghost use Rattle.rules.specs.Setup.{recordsOf, refusedSetup, switchesEntered, userEntered};
-ghost use Rattle.setup.specs.Progress.{countAfter, fitsAfter, numberAfter, parentFitsIn, progressAfter};
+ghost use Rattle.setup.specs.Progress.{countAfter, fitsAfter, noneBefore, numberAfter, parentFitsIn, progressAfter};
 ghost use Rattle.state.specs.State.{allOff, blank};
 use answers::SetupOutcome;
 use labels::Label;
@@ -21,20 +21,22 @@ use state::Process;
 use state::Switches;
 use state::User;
 
-// Record i of the bytes; 0 past their end.
-fn record_at(s: &[u8], i: u16) -> SetupRecord
-    ensures { λ r. ⌜ r ≡ firstRecord (drop (i * 8) (now (s .entry))) ⌝ }
+// How many bytes a record has.
+pub const RECORD: usize = 8;
+
+// The record that bytes begin with; a byte past their end is 0.
+pub fn record_of(s: &[u8]) -> SetupRecord
+    ensures { λ r. ⌜ r ≡ firstRecord (now (s .entry)) ⌝ }
 {
-    let at = (i as usize) * 8;
     SetupRecord {
-        kind: labels::at(s, at),
-        one: labels::at(s, at + 1),
-        two: labels::at(s, at + 2),
-        three: labels::at(s, at + 3),
-        four: labels::at(s, at + 4),
-        five: labels::at(s, at + 5),
-        six: labels::at(s, at + 6),
-        seven: labels::at(s, at + 7),
+        kind: labels::at(s, 0),
+        one: labels::at(s, 1),
+        two: labels::at(s, 2),
+        three: labels::at(s, 3),
+        four: labels::at(s, 4),
+        five: labels::at(s, 5),
+        six: labels::at(s, 6),
+        seven: labels::at(s, 7),
     }
 }
 
@@ -42,10 +44,10 @@ fn record_at(s: &[u8], i: u16) -> SetupRecord
 const MOST_BYTES: usize = 1160;
 
 // 14: is the length a positive multiple of 8, at most 1,160?
-fn allowed_length(n: usize) -> bool
+pub fn allowed_length(n: usize) -> bool
     ensures { λ r. ⌜ r ≡ allowedLength n ⌝ }
 {
-    (n % 8 == 0) & ((0 < n) & (n <= MOST_BYTES))
+    (n % RECORD == 0) & ((0 < n) & (n <= MOST_BYTES))
 }
 
 // The table of kinds: 3 switches, 1 user, 2 object, and none.
@@ -132,9 +134,16 @@ fn kind_of(k: u8) -> Kind
 }
 
 // What the reader keeps of the records before a record: the kind of the last one, 0 where there is none, and how many of that kind there are.
-struct Progress {
-    kind: u8,
-    count: u16,
+pub struct Progress {
+    pub kind: u8,
+    pub count: u16,
+}
+
+// Before the first record.
+pub fn none_before() -> Progress
+    ensures { λ x. ⌜ x ≡ noneBefore ⌝ }
+{
+    Progress { kind: 0, count: 0 }
 }
 
 // 15: does the place of a record's kind fit?
@@ -200,7 +209,7 @@ fn allowed_by(d: Kind, r: SetupRecord) -> bool
 }
 
 // 19: is the parent of an object none, or the number plus 1 of one of the `entered` objects that is a directory?
-fn parent_fits(kinds: &[u8], entered: u8, r: SetupRecord) -> bool
+pub fn parent_fits(kinds: &[u8], entered: u8, r: SetupRecord) -> bool
     ensures { λ x. ⌜ x ≡ parentFitsIn (now (kinds .entry)) entered r ⌝ }
 {
     if r.six == 0 {
@@ -212,7 +221,7 @@ fn parent_fits(kinds: &[u8], entered: u8, r: SetupRecord) -> bool
 }
 
 // The questions 15 to 17 and 19 of one record, where `fit` answers 19.
-fn record_number(before: Progress, fit: bool, r: SetupRecord) -> u8
+pub fn record_number(before: Progress, fit: bool, r: SetupRecord) -> u8
     ensures { λ x. ⌜ x ≡ numberAfter before fit r ⌝ }
 {
     let d = kind_of(r.kind);
@@ -226,19 +235,23 @@ fn record_number(before: Progress, fit: bool, r: SetupRecord) -> u8
     )
 }
 
-// What is kept with one record more.
-fn progress_after(before: Progress, kind: u8) -> Progress
-    requires { ⌜ before .count < 65535 ⌝ }
+// What is kept with one record more; there are never more of a kind than the most.
+pub fn progress_after(before: Progress, kind: u8) -> Progress
     ensures { λ x. ⌜ x ≡ progressAfter before kind ⌝ }
 {
-    Progress {
-        kind,
-        count: count_of(before, kind) + 1,
+    let d = kind_of(kind);
+    let count = count_of(before, kind);
+    if count < d.most {
+        return Progress {
+            kind,
+            count: count + 1,
+        };
     }
+    Progress { kind, count }
 }
 
 // The switches, the user and the object that a record enters.
-fn switches_entered(r: SetupRecord) -> Switches
+pub fn switches_entered(r: SetupRecord) -> Switches
     ensures { λ x. ⌜ x ≡ switchesEntered r ⌝ }
 {
     Switches {
@@ -249,7 +262,7 @@ fn switches_entered(r: SetupRecord) -> Switches
     }
 }
 
-fn user_entered(r: SetupRecord) -> User
+pub fn user_entered(r: SetupRecord) -> User
     ensures { λ x. ⌜ x ≡ userEntered r ⌝ }
 {
     User {
@@ -262,7 +275,7 @@ fn user_entered(r: SetupRecord) -> User
     }
 }
 
-fn object_entered(r: SetupRecord) -> Object
+pub fn object_entered(r: SetupRecord) -> Object
     ensures { λ x. ⌜ x ≡ objectEntered r ⌝ }
 {
     Object {
@@ -307,13 +320,16 @@ fn refused(number: u8, index: u16) -> Reading
 
 // The first records of a set-up, each asked in turn.
 fn read_records(s: &[u8], count: u16) -> Reading
+    requires { ⌜ count * 8 ≤ length (now s) ⌝ }
     ensures { λ x. ⌜ x ≡ enterAll [] (blank allOff) (recordsOf count (now (s .entry))) ⌝ }
 {
     let mut f = Facility::blank(Switches::off());
-    let mut before = Progress { kind: 0, count: 0 };
+    let mut before = none_before();
     let mut k: u16 = 0;
     while k < count {
-        let r = record_at(s, k);
+        let from = (k as usize) * RECORD;
+        let to = from + RECORD;
+        let r = record_of(&s[from..to]);
         let fit = parent_fits(&f.kinds, f.entered, r);
         let number = record_number(before, fit, r);
         if number != 0 {
@@ -337,5 +353,5 @@ pub fn read_setup(s: &[u8]) -> Reading
     if !allowed_length(n) {
         return refused(14, 0);
     }
-    read_records(s, ((n / 8) % 65536) as u16)
+    read_records(s, ((n / RECORD) % 65536) as u16)
 }

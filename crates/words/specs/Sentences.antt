@@ -55,33 +55,34 @@ unfolding has flagWord said filledFrom flagText flagsText _or_ _and_
 example = refl
 
 -- an object: its number, and where it is live its kind, its level, the category that FC looks at, its data type, and the flags that FF sees
-abbrev pub objectText : ℕ → Target → List ℕ
-objectText t x =
-    cond (on (x .object .live))
+abbrev pub objectText : ℕ → View → List ℕ
+objectText t v =
+    let o = v .target .object in
+    cond (on (o .live))
     (filled (ascii " object # (%, level $*, category =, data type ?")
-    (t ∷ x .object .kind ∷ x .object .label .level ∷ x .object .label .set ∷ x .object .category ∷ x .object .datatype ∷ [])
-    ++ flagsText (x .flags) ++ ascii ")")
+    (t ∷ o .kind ∷ o .label .level ∷ o .label .set ∷ o .category ∷ o .datatype ∷ [])
+    ++ flagsText (v .looked .flags) ++ ascii ")")
     (filled (ascii " object # (not live)") (t ∷ []))
 
 -- what a create makes, and in which directory
-abbrev pub createText : Call → Target → List ℕ
-createText c x =
-    cond (inDirectory (c .extra)) (filled (ascii " % in") (c .extra ∷ []) ++ objectText (c .target) x) (filled (ascii " %") (c .extra ∷ []))
+abbrev pub createText : Call → View → List ℕ
+createText c v =
+    cond (inDirectory (c .extra)) (filled (ascii " % in") (c .extra ∷ []) ++ objectText (c .target) v) (filled (ascii " %") (c .extra ∷ []))
 
 -- a signal's receiver
 abbrev pub receiverText : ℕ → Target → List ℕ
 receiverText t x = filled (ascii " process # (") (t ∷ []) ++ processText (x .receiver) (x .owner) ++ ascii ")"
 
 -- what a request is about
-abbrev pub targetText : Action → Call → Target → List ℕ
-targetText Login c x = filled (ascii " user #") (c .extra ∷ [])
-targetText Clone c x = filled (ascii " to process #, the clone of process #") (c .target ∷ c .process ∷ [])
-targetText SendSignal c x = receiverText (c .target) x
-targetText SetLevel c x = filled (ascii " level #*") (c .extra ∷ c .target ∷ [])
-targetText Terminate c x = []
-targetText Create c x = createText c x
-targetText OnObject c x = objectText (c .target) x
-targetText Unknown c x = filled (ascii " number #") (c .request ∷ [])
+abbrev pub targetText : Action → Call → View → List ℕ
+targetText Login c v = filled (ascii " user #") (c .extra ∷ [])
+targetText Clone c v = filled (ascii " to process #, the clone of process #") (c .target ∷ c .process ∷ [])
+targetText SendSignal c v = receiverText (c .target) (v .target)
+targetText SetLevel c v = filled (ascii " level #*") (c .extra ∷ c .target ∷ [])
+targetText Terminate c v = []
+targetText Create c v = createText c v
+targetText OnObject c v = objectText (c .target) v
+targetText Unknown c v = filled (ascii " number #") (c .request ∷ [])
 
 -- who calls, and what for
 abbrev pub beforeText : ℕ → Call → View → List ℕ
@@ -117,7 +118,7 @@ countText o v n = cond (denies (numberOf o)) (filled (ascii "; refusals of user 
 abbrev pub sentenceText : Told → List ℕ
 sentenceText t =
     beforeText (t .index) (t .call) (t .before)
-    ++ targetText (actionOf (t .call .request)) (t .call) (t .before .target)
+    ++ targetText (actionOf (t .call .request)) (t .call) (t .before)
     ++ outcomeText (t .outcome) (t .reason)
     ++ processText (t .later .caller) (t .later .owner)
     ++ laterText (t .call) (t .later .target)

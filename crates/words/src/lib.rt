@@ -156,7 +156,7 @@ fn put_flags(out: &mut [u8; BUFFER], place: usize, v: u8) -> usize
 
 // The object: its number, and where it is live its kind, level, category, data type and the flags that FF sees.
 fn put_object(out: &mut [u8; BUFFER], place: usize, c: Call, v: View) -> usize
-    ensures { λ x. ⌜ Stored (now (out .entry)) place (objectText (c .target) (v .target)) (now (out .exit)) x ⌝ }
+    ensures { λ x. ⌜ Stored (now (out .entry)) place (objectText (c .target) v) (now (out .exit)) x ⌝ }
 {
     if v.target.object.live == 1 {
         let numbers = [
@@ -173,7 +173,7 @@ fn put_object(out: &mut [u8; BUFFER], place: usize, c: Call, v: View) -> usize
             b" object # (%, level $*, category =, data type ?",
             &numbers,
         );
-        p = put_flags(out, p, v.target.flags);
+        p = put_flags(out, p, v.looked.flags);
         return text::put_text(out, p, b")");
     }
     put_one(out, place, b" object # (not live)", c.target)
@@ -181,7 +181,7 @@ fn put_object(out: &mut [u8; BUFFER], place: usize, c: Call, v: View) -> usize
 
 // What a create makes, and in which directory.
 fn put_create(out: &mut [u8; BUFFER], place: usize, c: Call, v: View) -> usize
-    ensures { λ x. ⌜ Stored (now (out .entry)) place (createText c (v .target)) (now (out .exit)) x ⌝ }
+    ensures { λ x. ⌜ Stored (now (out .entry)) place (createText c v) (now (out .exit)) x ⌝ }
 {
     if requests::in_directory(c.extra) {
         let p = put_one(out, place, b" % in", c.extra);
@@ -201,7 +201,7 @@ fn put_receiver(out: &mut [u8; BUFFER], place: usize, c: Call, v: View) -> usize
 
 // What the request is about.
 fn put_target(out: &mut [u8; BUFFER], place: usize, c: Call, v: View) -> usize
-    ensures { λ x. ⌜ Stored (now (out .entry)) place (targetText (actionOf (c .request)) c (v .target)) (now (out .exit)) x ⌝ }
+    ensures { λ x. ⌜ Stored (now (out .entry)) place (targetText (actionOf (c .request)) c v) (now (out .exit)) x ⌝ }
 {
     let k = requests::action_of(c.request);
     match k {

@@ -36,9 +36,9 @@ returns c =
         receiver = receiver .process-at2 .ensures i;
         object = object .object-at .ensures i;
         opens = (opens .at .ensures ∙ ap (λ (n : ℕ). at (f .opens) n) (marks .mark-place .ensures)) i;
-        flags = (flags .seen-at .ensures ∙ ap (λ (n : ℕ). cond (on (f .ff)) n 0) (effective-lists (objectsIn f) _)) i;
         owner = (c .user-at2 .ensures ∙ ap (λ (r : Process). userOf f (r .owner)) (receiver .process-at2 .ensures)) i;
       };
+      looked = record { flags = (flags .seen-at .ensures ∙ ap (λ (n : ℕ). cond (on (f .ff)) n 0) (effective-lists (objectsIn f) _)) i };
     }
 
 pub view-of-spec : {M : Type 1} → statement M

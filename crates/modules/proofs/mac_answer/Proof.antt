@@ -1,16 +1,16 @@
--- The result is `macAnswer k v c`.
+-- The result is `macAnswerBy q v c`.
 use Rattle.modules.proofs.mac_answer.Statement.{statement}
 use Rattle.modules.proofs.mac_answer.Tie as tie
 use borrow.Author.Tests.{eq-eqb, ne-eqb}
 use borrow.Author.Needs.{needs}
-use Rattle.rules.specs.Modules.{macAnswer}
+use Rattle.modules.specs.Parts.{macAnswerBy}
 
 returns : tie.Need-returns
-unfolding macAnswer
+unfolding macAnswerBy
 returns c = rw (eq-eqb _ 1 (c .before .if1 .taken), c .mac-rule .ensures)
 
 returns-2 : tie.Need-returns-2
-unfolding macAnswer
+unfolding macAnswerBy
 returns-2 c = rw (ne-eqb _ 1 (c .if1 .left))
 
 pub mac-answer-spec : {M : Type 1} → statement M

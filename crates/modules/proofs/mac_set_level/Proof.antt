@@ -1,11 +1,11 @@
--- The result is `macRule Action.SetLevel v c`.
+-- The result is `macAlone Action.SetLevel v c`.
 use Rattle.modules.proofs.mac_set_level.Statement.{statement}
 use Rattle.modules.proofs.mac_set_level.Tie as tie
 use borrow.Author.Needs.{needs}
-use Rattle.rules.specs.Modules.{macRule}
+use Rattle.modules.specs.Parts.{macAlone}
 
 returns : tie.Need-returns
-unfolding macRule
+unfolding macAlone
 returns c = rw (c .grant .ensures, c .before .may-set .ensures, c .before .before .wanted .ensures)
 
 pub mac-set-level-spec : {M : Type 1} → statement M

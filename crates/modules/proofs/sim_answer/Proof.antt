@@ -1,18 +1,17 @@
--- The result is `simAnswer k v c`.
-use Rattle.modules.proofs.sim_answer.Statement.{statement}
-use Rattle.modules.proofs.sim_answer.Tie as tie
+-- The result is `simAnswerBy q v c`.
 use borrow.Author.Needs.{needs}
 use Rattle.labels.specs.Decisions.{_and_}
-use Rattle.rules.specs.Modules.{simAnswer}
+use Rattle.modules.specs.Parts.{simAnswerBy}
+use Rattle.modules.proofs.sim_answer.Statement.{statement}
+use Rattle.modules.proofs.sim_answer.Tie as tie
 
 returns : tie.Need-returns
-unfolding simAnswer _and_
-returns c = rw (c .sim-rule .ensures, c .before .class-in .ensures, ← c .before .before .before .before .needs-object .ensures, c .before .before .if1 .taken)
+unfolding simAnswerBy _and_
+returns c = rw (c .sim-rule .ensures, c .before .if1 .taken)
 
 returns-2 : tie.Need-returns-2
-unfolding simAnswer _and_
-returns-2 c = rw (← c .before .before .needs-object .ensures, c .if1 .left)
+unfolding simAnswerBy _and_
+returns-2 c = rw (c .if1 .left)
 
 pub sim-answer-spec : {M : Type 1} → statement M
-sim-answer-spec =
-    tie.close (tie.spec (λ c κs. search needs) (λ c κs. search needs) (λ c κs. search needs) returns returns-2)
+sim-answer-spec = tie.close (tie.spec (λ c κs. search needs) returns returns-2)

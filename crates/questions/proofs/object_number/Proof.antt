@@ -1,4 +1,4 @@
--- The result is `objectNumber k v c later`.
+-- The result is `objectNumber q v c later`.
 use Rattle.questions.proofs.object_number.Statement.{statement}
 use Rattle.questions.proofs.object_number.Tie as tie
 use borrow.Author.Needs.{needs}
@@ -18,8 +18,6 @@ returns c =
     let c12 = c11 .before in
     let c13 = c12 .before in
     let c14 = c13 .before in
-    let c15 = c14 .before in
-    let c16 = c15 .before in
     rw (
       c .ask4 .ensures,
       c .before .only-if5 .ensures,
@@ -34,8 +32,6 @@ returns c =
       c12 .only-if .ensures,
       c13 .open-for .ensures,
       c14 .is-no-condition .ensures,
-      c15 .needs-object .ensures,
-      c16 .class-in .ensures,
     )
 
 pub object-number-spec : {M : Type 1} → statement M
@@ -43,4 +39,4 @@ object-number-spec =
     tie.close
     (tie.spec (λ c κs. search needs) (λ c κs. search needs) (λ c κs. search needs) (λ c κs. search needs) (λ c κs. search needs)
     (λ c κs. search needs) (λ c κs. search needs) (λ c κs. search needs) (λ c κs. search needs) (λ c κs. search needs) (λ c κs. search needs)
-    (λ c κs. search needs) (λ c κs. search needs) (λ c κs. search needs) (λ c κs. search needs) returns)
+    (λ c κs. search needs) (λ c κs. search needs) returns)

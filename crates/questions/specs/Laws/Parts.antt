@@ -8,7 +8,10 @@ use borrow.Author.Tests.{ne-eqb, lt-leb, le-leb, le-ltb}
 use Rattle.state.specs.declared.Call.{Call}
 use Rattle.rules.specs.declared.Action.{Action}
 use Rattle.rules.specs.declared.View.{View}
-use Rattle.rules.specs.Modules.{answers}
+use Rattle.modules.specs.Laws.Parts.{answers-by}
+use Rattle.modules.specs.Parts.{answersBy, requestIn}
+use Rattle.requests.specs.declared.Request.{Request}
+use Rattle.answers.specs.declared.Answers.{Answers}
 use Rattle.rules.specs.Questions.{runsOf, numberBy, inRange}
 use Rattle.questions.specs.Parts.{lateNumber, objectNumber, processNumber, outcomeBy, laterNumber, outcomeIn}
 use Rattle.labels.specs.Decisions.{ask, _or_, _and_}
@@ -19,10 +22,12 @@ use Rattle.rules.specs.Requests.{lastRequest, actionOf}
 use Rattle.opens.specs.Opens.{mostProcesses}
 use Rattle.answers.specs.declared.Outcome.{Outcome}
 
-pub all-parts : (k : Action) (v : View) (c : Call)
-    → processNumber k (runsOf v) c (objectNumber k v c (lateNumber k v c (answers k v c .combined))) ≡ numberBy k v c
+pub all-parts : (v : View) (c : Call)
+    → processNumber (actionOf (c .request)) (runsOf v) c (laterNumber (requestIn v c) v c) ≡ numberBy (actionOf (c .request)) v c
 unfolding processNumber objectNumber lateNumber numberBy
-all-parts k v c = refl
+all-parts v c =
+    let k = actionOf (c .request) in
+    ap (λ (a : Answers). processNumber k (runsOf v) c (objectNumber (requestIn v c) v c (lateNumber k v c (a .combined)))) (answers-by v c)
 
 -- A question that does not refuse, whatever the later ones are; and one that does, with a number that is not counted.
 passes : (b : Bool) (m r s : ℕ) → ask b (suc m) r ≡ 0 → ask b (suc m) s ≡ s
@@ -45,9 +50,9 @@ process-passes k v c n h1 =
     let h5 = ask-later _ 3 _ h4 in
     passes _ 0 _ _ h1 ∙ passes _ 1 _ _ h2 ∙ passes _ 2 _ _ h3 ∙ passes _ 3 _ _ h4 ∙ passes _ 4 _ _ h5
 
-pub object-passes : (k : Action) (v : View) (c : Call) (n : ℕ) → objectNumber k v c 0 ≡ 0 → objectNumber k v c n ≡ n
+pub object-passes : (q : Request) (v : View) (c : Call) (n : ℕ) → objectNumber q v c 0 ≡ 0 → objectNumber q v c n ≡ n
 unfolding objectNumber
-object-passes k v c n h8 =
+object-passes q v c n h8 =
     let h6 = ask-later _ 7 _ h8 in
     let h7 = ask-later _ 5 _ h6 in
     let h9 = ask-later _ 6 _ h7 in
@@ -67,37 +72,42 @@ process-refuses k v c n =
     (refuses _ 3 _ _ (not-counted 4 refl refl)
     (refuses _ 4 _ _ (not-counted 5 refl refl) (λ h. absurd (h refl))))))
 
-object-refuses : (k : Action) (v : View) (c : Call) (n : ℕ) → objectNumber k v c 0 ≢ 0
-    → (denies (objectNumber k v c 0) ≡ false) × (objectNumber k v c n ≡ objectNumber k v c 0)
+object-refuses : (q : Request) (v : View) (c : Call) (n : ℕ) → objectNumber q v c 0 ≢ 0
+    → (denies (objectNumber q v c 0) ≡ false) × (objectNumber q v c n ≡ objectNumber q v c 0)
 unfolding objectNumber
-object-refuses k v c n =
+object-refuses q v c n =
     refuses _ 7 _ _ (not-counted 8 refl refl)
     (refuses _ 5 _ _ (not-counted 6 refl refl)
     (refuses _ 6 _ _ (not-counted 7 refl refl)
     (refuses _ 8 _ _ (not-counted 9 refl refl) (λ h. absurd (h refl)))))
 
-refused-by : (n m : ℕ) (k : Action) (v : View) (c : Call) → m ≢ 0 → (denies m ≡ false) × (n ≡ m) → Refused m ≡ outcomeBy n k v c
+refused-by : (n m : ℕ) (q : Request) (v : View) (c : Call) → m ≢ 0 → (denies m ≡ false) × (n ≡ m) → Refused m ≡ outcomeBy n q v c
 unfolding outcomeBy outcomeOf
-refused-by n m k v c h (d, e) = rw (e, ne-eqb m 0 h, d)
+refused-by n m q v c h (d, e) = rw (e, ne-eqb m 0 h, d)
 
 -- the outcome by where the questions stop
-pub refused-first : (k : Action) (v : View) (c : Call) (n : ℕ) → n ≡ processNumber k (runsOf v) c 0 → n ≢ 0 → Refused n ≡ outcomeBy (numberBy k v c) k v c
-refused-first k v c n e h =
+pub refused-first : (v : View) (c : Call) (n : ℕ) → n ≡ processNumber (actionOf (c .request)) (runsOf v) c 0 → n ≢ 0 → Refused n ≡ outcomeIn v c
+unfolding outcomeIn
+refused-first v c n e h =
+    let k = actionOf (c .request) in
+    let q = requestIn v c in
     let g : processNumber k (runsOf v) c 0 ≢ 0 = λ z. h (e ∙ z) in
-    ap Refused e ∙ refused-by _ _ k v c g (process-refuses k v c _ g) ∙ ap (λ (m : ℕ). outcomeBy m k v c) (all-parts k v c)
+    ap Refused e ∙ refused-by _ _ q v c g (process-refuses k v c _ g) ∙ ap (λ (m : ℕ). outcomeBy m q v c) (all-parts v c)
 
-pub refused-second : (k : Action) (v : View) (c : Call) (n : ℕ) → n ≡ objectNumber k v c 0 → n ≢ 0 → Refused n ≡ outcomeBy (laterNumber k v c) k v c
-refused-second k v c n e h =
-    let g : objectNumber k v c 0 ≢ 0 = λ z. h (e ∙ z) in
-    ap Refused e ∙ refused-by _ _ k v c g (object-refuses k v c _ g)
+pub refused-second : (q : Request) (v : View) (c : Call) (n : ℕ) → n ≡ objectNumber q v c 0 → n ≢ 0 → Refused n ≡ outcomeBy (laterNumber q v c) q v c
+refused-second q v c n e h =
+    let g : objectNumber q v c 0 ≢ 0 = λ z. h (e ∙ z) in
+    ap Refused e ∙ refused-by _ _ q v c g (object-refuses q v c _ g)
 
-pub judged-last : (k : Action) (v : View) (c : Call) → objectNumber k v c 0 ≡ 0
-    → outcomeBy (lateNumber k v c (answers k v c .combined)) k v c ≡ outcomeBy (laterNumber k v c) k v c
-judged-last k v c q = ap (λ (m : ℕ). outcomeBy m k v c) (sym (object-passes k v c _ q))
+pub judged-last : (q : Request) (v : View) (c : Call) → objectNumber q v c 0 ≡ 0
+    → outcomeBy (lateNumber (q .action) v c (answersBy q v c .combined)) q v c ≡ outcomeBy (laterNumber q v c) q v c
+judged-last q v c p = ap (λ (m : ℕ). outcomeBy m q v c) (sym (object-passes q v c _ p))
 
-pub later-last : (k : Action) (v : View) (c : Call) → processNumber k (runsOf v) c 0 ≡ 0
-    → outcomeBy (laterNumber k v c) k v c ≡ outcomeBy (numberBy k v c) k v c
-later-last k v c p = ap (λ (m : ℕ). outcomeBy m k v c) (sym (process-passes k v c _ p) ∙ all-parts k v c)
+later-last : (v : View) (c : Call) → processNumber (actionOf (c .request)) (runsOf v) c 0 ≡ 0
+    → outcomeBy (laterNumber (requestIn v c) v c) (requestIn v c) v c ≡ outcomeIn v c
+unfolding outcomeIn
+later-last v c p =
+    ap (λ (m : ℕ). outcomeBy m (requestIn v c) v c) (sym (process-passes (actionOf (c .request)) v c _ p) ∙ all-parts v c)
 
 -- questions 1 and 2 refuse
 pub first-is-1 : (k : Action) (v : View) (c : Call) → lastRequest < c .request → 1 ≡ processNumber k (runsOf v) c 0
@@ -109,8 +119,7 @@ unfolding processNumber ask inRange _and_
 first-is-2 k v c h b =
     rw (le-leb (c .request) lastRequest h, le-ltb (c .process) mostProcesses b)
 
-pub outcome-later : (v : View) (c : Call) (k : Action) (n : ℕ) (o : Outcome) → k ≡ actionOf (c .request)
-    → n ≡ processNumber (actionOf (c .request)) (runsOf v) c 0 → n ≡ 0 → o ≡ outcomeBy (laterNumber k v c) k v c → o ≡ outcomeIn v c
-unfolding outcomeIn
-outcome-later v c k n o e q z h =
-    h ∙ ap (λ (x : Action). outcomeBy (laterNumber x v c) x v c) e ∙ later-last (actionOf (c .request)) v c (sym q ∙ z)
+pub outcome-later : (v : View) (c : Call) (q : Request) (n : ℕ) (o : Outcome) → q ≡ requestIn v c
+    → n ≡ processNumber (actionOf (c .request)) (runsOf v) c 0 → n ≡ 0 → o ≡ outcomeBy (laterNumber q v c) q v c → o ≡ outcomeIn v c
+outcome-later v c q n o e p z h =
+    h ∙ ap (λ (x : Request). outcomeBy (laterNumber x v c) x v c) e ∙ later-last v c (sym p ∙ z)

@@ -73,7 +73,7 @@ abbrev guarded : View → Call → Bool
 guarded v c = (alters (classIn v c) or eqb (c .request) 19) and eqb (v .target .object .datatype) 1
 
 abbrev forbade : View → Call → ℕ
-forbade v c = forbidding (v .target .flags) (c .request) (classIn v c) (v .target .object .kind)
+forbade v c = forbidding (v .looked .flags) (c .request) (classIn v c) (v .target .object .kind)
 
 -- a call that the modules judged
 judged-told : (v : View) (c : Call) → denies (numberBy (actionOf (c .request)) v c) ≡ true

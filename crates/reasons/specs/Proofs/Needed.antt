@@ -1,5 +1,4 @@
 -- A condition that failed refuses by itself.
-use Prim.Native.Nat.{ℕ}
 use mathlib.Core.Path.{_≡_, refl}
 use mathlib.Core.Bool.{Bool, true, false, not}
 use Rattle.labels.specs.declared.Label.{Label}

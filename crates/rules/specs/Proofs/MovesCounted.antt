@@ -20,14 +20,14 @@ use Rattle.answers.specs.Laws.Answers.{passes-grant}
 use Rattle.rules.specs.Effects.{effectBy}
 use Rattle.rules.specs.Calls.{ownerIn, accepted, after}
 use Rattle.rules.specs.Requests.{Action, Login, Clone, SendSignal, SetLevel, Terminate, Create, OnObject, Unknown, Class, Absent, Reads, Writes, Both}
-use Rattle.rules.specs.Requests.{NoCondition, actionOf, isLogin, isClone, needsObject, observes, alters}
+use Rattle.rules.specs.Requests.{NoCondition, actionOf, isLogin, isClone, inDirectory, needsObject, observes, alters}
 use Rattle.rules.specs.Modules.{View, viewOf, classIn, wanted, macObject, macRule, movesTo, moveBy, setLevel, moved, levelled, signalled}
 use Rattle.rules.specs.Setup.{fresh}
 use Rattle.rules.specs.Questions.{number}
 use Rattle.rules.specs.Histories.{run, Step, past, isStart, isCloning, ownerAfter, currentOf, ofClass, isMove, movesOf, movesBound}
 use Rattle.rules.specs.Promises.{Moves}
 use Rattle.rules.specs.Proofs.Passed.{Passed, passed, mac-passed, accepted-zero}
-use Rattle.rules.specs.Proofs.Processes.{Each, puts, putNumber, putBy, unput-login, unput-clone, unput-caller, each-effect, process-put, each-refused}
+use Rattle.rules.specs.Proofs.Processes.{Each, put, New, unput-login, unput-clone, unput-caller, each-effect, process-put, each-refused}
 use Rattle.rules.specs.Proofs.Leaves.{after-leaves}
 use Rattle.rules.specs.Proofs.Moves.{object-granted, moved-is}
 use Rattle.rules.specs.Proofs.Regular.{Regular, regular-after, allowed-clearance}
@@ -219,10 +219,10 @@ module _ (f : Facility) (c : Call) (xs : List Step) where
         (moved (viewOf f c) c) (moved-owner (viewOf f c) c .owner) (moves-caller k e l d n h m)
         (counted-moved (viewOf f c) c (movesOf xs (c .process)) p (G (c .process) r))
 
-    new-counted : (k : Action) → actionOf (c .request) ≡ k → Passed k (viewOf f c) c → puts k c ≡ true
-        → CountedAt (setting f) (last f c ∷ xs) (putNumber k c) (putBy k (viewOf f c) c)
+    new-counted : (k : Action) → actionOf (c .request) ≡ k → Passed k (viewOf f c) c
+        → New (CountedAt (setting f) (last f c ∷ xs)) (put k (viewOf f c) c)
     unfolding macRule freshProcess noProcess
-    new-counted Login e q z =
+    new-counted Login e q =
         recounted (setting f) (last f c ∷ xs) (c .process) (c .extra) 0 (freshProcess (c .extra)) refl (moves-start (begun f c h (rw e)))
         (record {
           counter = refl;
@@ -231,23 +231,25 @@ module _ (f : Facility) (c : Call) (xs : List Step) where
           off = λ m. refl;
           trusted = λ t. refl;
         })
-    new-counted Clone e q z =
+    new-counted Clone e q =
         λ r. subst⁻¹ (λ (n : ℕ). Counted (f .mac) (userOf f ((processOf f (c .process)) .owner)) n (processOf f (c .process)))
         (moves-cloned (branched f c h (rw e))) (G (c .process) r)
-    new-counted SendSignal e q z =
+    new-counted SendSignal e q =
         recounted (setting f) (last f c ∷ xs) (c .target) _ _ _ (signalled-owner (viewOf f c) .owner) (moves-still SendSignal e refl refl refl (c .target))
         (counted-signal (viewOf f c) (movesOf xs (c .target)) (G (c .target) (q .receiver)))
-    new-counted SetLevel e q z =
+    new-counted SetLevel e q =
         recounted (setting f) (last f c ∷ xs) (c .process) _ _ _ (levelled-owner (viewOf f c) c .owner) (moves-still SetLevel e refl refl refl (c .process))
         (counted-level (viewOf f c) c (movesOf xs (c .process)) (λ m. mac-passed SetLevel (viewOf f c) c q m) (G (c .process) (q .running)))
-    new-counted Terminate e q z = λ r. clash r refl
-    new-counted Create e q z =
-        counted-caller Create e refl refl z (q .running) (process-put Create f c (R .sound .shaped) q z)
-        (λ m. rw z at (mac-passed Create (viewOf f c) c q m))
-    new-counted OnObject e q z =
-        counted-caller OnObject e refl refl refl (q .running) (process-put OnObject f c (R .sound .shaped) q z)
+    new-counted Terminate e q = λ r. clash r refl
+    new-counted Create e q =
+        by-test (inDirectory (c .extra))
+        (λ d. rw d (counted-caller Create e refl refl d (q .running) (process-put Create f c _ _ (R .sound .shaped) q (rw d))
+        (λ m. rw d at (mac-passed Create (viewOf f c) c q m))))
+        (λ d. rw d tt)
+    new-counted OnObject e q =
+        counted-caller OnObject e refl refl refl (q .running) (process-put OnObject f c _ _ (R .sound .shaped) q refl)
         (λ m. mac-passed OnObject (viewOf f c) c q m)
-    new-counted Unknown e q z = clash z refl
+    new-counted Unknown e q = tt
 
     counted-accepted : AllCounted (setting f) (last f c ∷ xs) (effectBy (actionOf (c .request)) f c)
     counted-accepted =
@@ -255,7 +257,8 @@ module _ (f : Facility) (c : Call) (xs : List Step) where
         let q = passed k (viewOf f c) c (accepted-zero f c h) in
         each-effect (CountedAt (setting f) (last f c ∷ xs)) k f c (R .sound .shaped) q (new-counted k refl q)
         (λ p u r. subst⁻¹ (λ (n : ℕ). Counted (f .mac) (userOf f ((processOf f p) .owner)) n (processOf f p))
-        (moves-else p (no-start f c p (unput-login k c p u)) (no-cloning f c p (unput-clone k c p u)) (no-move p (unput-caller k c p u))) (G p r))
+        (moves-else p (no-start f c p (unput-login k (viewOf f c) c p u)) (no-cloning f c p (unput-clone k (viewOf f c) c p u))
+        (no-move p (unput-caller k (viewOf f c) c p u))) (G p r))
 
 -- no call changes the setting
 setting-after : (f : Facility) (c : Call) → setting (after f c) ≡ setting f

@@ -1,6 +1,6 @@
 -- Every running process is owned by a user, the one whom the history of calls tells; and a 12 or 13 has a running caller.
 use Prim.Native.Nat.{ℕ, _<_}
-use mathlib.Core.Path.{_≡_, refl, sym, _∙_, ap, subst⁻¹}
+use mathlib.Core.Path.{_≡_, refl, sym, _∙_, ap, subst, subst⁻¹}
 use mathlib.Core.Logic.{_≢_}
 use mathlib.Core.Bool.{Bool, true, false, not, cond}
 use mathlib.Core.List.{List, [], _∷_}
@@ -15,13 +15,14 @@ use Rattle.state.specs.State.{mostUsers, processOf, freshProcess, noProcess}
 use Rattle.rules.specs.Effects.{effectBy}
 use Rattle.rules.specs.Calls.{ownerIn, accepted, after}
 use Rattle.rules.specs.Requests.{Action, Login, Clone, SendSignal, SetLevel, Terminate, Create, OnObject, Unknown, Class, Absent, Reads, Writes, Both}
-use Rattle.rules.specs.Requests.{NoCondition, actionOf, actionCode, isLogin, isClone}
+use Rattle.rules.specs.Requests.{NoCondition, actionOf, actionCode, isLogin, isClone, inDirectory}
 use Rattle.rules.specs.Modules.{View, viewOf, classIn, macRule, macAnswer, fcAnswer, simAnswer, ffAnswer, answers, moveBy, setLevel, moved, levelled}
 use Rattle.rules.specs.Modules.{signalled}
 use Rattle.rules.specs.Questions.{isRunning, numberBy, number}
 use Rattle.rules.specs.Proofs.Passed.{Passed, passed, accepted-zero, judged}
 use Rattle.rules.specs.Proofs.Sound.{Sound}
-use Rattle.rules.specs.Proofs.Processes.{Each, putNumber, putBy, unput-login, unput-clone, each-effect, each-refused}
+use Rattle.rules.specs.Proofs.Actions.{is-login, is-clone}
+use Rattle.rules.specs.Proofs.Processes.{Each, Put, None, At, put, New, unput-login, unput-clone, each-effect, each-refused}
 use Rattle.rules.specs.Proofs.Fresh.{fresh-setup}
 use Rattle.rules.specs.Proofs.Regular.{Regular, regular-after}
 use Rattle.rules.specs.Setup.{fresh}
@@ -68,17 +69,19 @@ signalled-owner v =
     (λ e. rw e (record { running = refl; owner = refl })) (λ e. rw e (same-owner (v .target .receiver)))
 
 -- neither a login nor a cloning: the process that is put has the owner that it had, if it runs at all
-put-owner : (k : Action) (f : Facility) (c : Call) → isLogin k ≡ false → isClone k ≡ false → on ((putBy k (viewOf f c) c) .running) ≡ true
-    → SameOwner (putBy k (viewOf f c) c) (processOf f (putNumber k c))
+abbrev KeepsOwner : Facility → ℕ → Process → Type 0
+KeepsOwner f p r = on (r .running) ≡ true → SameOwner r (processOf f p)
+
+put-owner : (k : Action) (f : Facility) (c : Call) → isLogin k ≡ false → isClone k ≡ false → New (KeepsOwner f) (put k (viewOf f c) c)
 unfolding noProcess
-put-owner Login f c l d r = clash refl l
-put-owner Clone f c l d r = clash refl d
-put-owner SendSignal f c l d r = signalled-owner (viewOf f c)
-put-owner SetLevel f c l d r = levelled-owner (viewOf f c) c
-put-owner Terminate f c l d r = clash r refl
-put-owner Create f c l d r = moved-owner (viewOf f c) c
-put-owner OnObject f c l d r = moved-owner (viewOf f c) c
-put-owner Unknown f c l d r = same-owner (viewOf f c .caller)
+put-owner Login f c l d = clash refl l
+put-owner Clone f c l d = clash refl d
+put-owner SendSignal f c l d = λ r. signalled-owner (viewOf f c)
+put-owner SetLevel f c l d = λ r. levelled-owner (viewOf f c) c
+put-owner Terminate f c l d = λ r. clash r refl
+put-owner Create f c l d = by-test (inDirectory (c .extra)) (λ e. rw e (λ r. moved-owner (viewOf f c) c)) (λ e. rw e tt)
+put-owner OnObject f c l d = λ r. moved-owner (viewOf f c) c
+put-owner Unknown f c l d = tt
 
 clone-no-login : (k : Action) → isClone k ≡ true → isLogin k ≡ false
 clone-no-login k h = let e = eqb-true (actionCode k) 2 h in ne-eqb (actionCode k) 21 (λ z. omega arith)
@@ -129,35 +132,43 @@ module _ (f : Facility) (c : Call) (xs : List Step) where
   module _ (S : Sound f) (h : accepted f c ≡ true) (O : Owned xs f) where
     -- a process that is put with the owner that it had
     kept-owner : (k : Action) → actionOf (c .request) ≡ k → isLogin k ≡ false → isClone k ≡ false
-        → TellsOwner (last f c ∷ xs) (putNumber k c) (putBy k (viewOf f c) c)
-    kept-owner k e l d r =
-        let w = put-owner k f c l d r in
-        let o = O (putNumber k c) (sym (ap on (w .running)) ∙ r) in (
-          subst⁻¹ (λ (u : ℕ). u < mostUsers) (w .owner) (o .0),
-          w .owner ∙ o .1 ∙ sym (owner-else _ (no-start f c _ (λ z. clash z (rw e l))) (no-cloning f c _ (λ z. clash z (rw e d)))),
+        → (x : Put) → New (KeepsOwner f) x → New (TellsOwner (last f c ∷ xs)) x
+    kept-owner k e l d None w = tt
+    kept-owner k e l d (At p r) w = λ n.
+        let s = w n in
+        let o = O p (sym (ap on (s .running)) ∙ n) in (
+          subst⁻¹ (λ (u : ℕ). u < mostUsers) (s .owner) (o .0),
+          s .owner ∙ o .1 ∙ sym (owner-else _ (no-start f c _ (λ z. clash z (rw e l))) (no-cloning f c _ (λ z. clash z (rw e d)))),
         )
 
-    new-owner : (k : Action) → actionOf (c .request) ≡ k → Passed k (viewOf f c) c
-        → TellsOwner (last f c ∷ xs) (putNumber k c) (putBy k (viewOf f c) c)
+    -- a login, a cloning, and every other call
+    new-login : actionOf (c .request) ≡ Login → Passed Login (viewOf f c) c → TellsOwner (last f c ∷ xs) (c .process) (freshProcess (c .extra))
     unfolding freshProcess
-    new-owner Login e q r =
+    new-login e q r =
         let u : c .extra < f .users = ltb-true _ _ (q .user) in (omega (arith, S .users), sym (owner-start (begun f c h (rw e))))
-    new-owner Clone e q r = let o = O (c .process) r in (o .0, o .1 ∙ sym (owner-cloned (branched f c h (rw e))))
-    new-owner SendSignal e q r = kept-owner SendSignal e refl refl r
-    new-owner SetLevel e q r = kept-owner SetLevel e refl refl r
-    new-owner Terminate e q r = kept-owner Terminate e refl refl r
-    new-owner Create e q r = kept-owner Create e refl refl r
-    new-owner OnObject e q r = kept-owner OnObject e refl refl r
-    new-owner Unknown e q r = kept-owner Unknown e refl refl r
+
+    new-clone : actionOf (c .request) ≡ Clone → TellsOwner (last f c ∷ xs) (c .target) (processOf f (c .process))
+    new-clone e r = let o = O (c .process) r in (o .0, o .1 ∙ sym (owner-cloned (branched f c h (rw e))))
+
+    new-owner : (k : Action) → actionOf (c .request) ≡ k → Passed k (viewOf f c) c → New (TellsOwner (last f c ∷ xs)) (put k (viewOf f c) c)
+    new-owner k e q =
+        by-test (isLogin k)
+        (λ l.
+        let i = is-login k l in
+        subst⁻¹ (λ (z : Action). New (TellsOwner (last f c ∷ xs)) (put z (viewOf f c) c)) i
+        (new-login (e ∙ i) (subst (λ (z : Action). Passed z (viewOf f c) c) i q)))
+        (λ l. by-test (isClone k)
+        (λ d. let i = is-clone k d in subst⁻¹ (λ (z : Action). New (TellsOwner (last f c ∷ xs)) (put z (viewOf f c) c)) i (new-clone (e ∙ i)))
+        (λ d. kept-owner k e l d (put k (viewOf f c) c) (put-owner k f c l d)))
 
     owner-accepted : Owned (last f c ∷ xs) (effectBy (actionOf (c .request)) f c)
     owner-accepted =
         let k = actionOf (c .request) in
         let q = passed k (viewOf f c) c (accepted-zero f c h) in
-        each-effect (TellsOwner (last f c ∷ xs)) k f c (S .shaped) q (λ z. new-owner k refl q)
+        each-effect (TellsOwner (last f c ∷ xs)) k f c (S .shaped) q (new-owner k refl q)
         (λ p u r.
         let o = O p r in
-        (o .0, o .1 ∙ sym (owner-else p (no-start f c p (unput-login k c p u)) (no-cloning f c p (unput-clone k c p u)))))
+        (o .0, o .1 ∙ sym (owner-else p (no-start f c p (unput-login k (viewOf f c) c p u)) (no-cloning f c p (unput-clone k (viewOf f c) c p u)))))
 
   owner-unaccepted : accepted f c ≡ false → (q : ℕ) → ownerAfter (last f c ∷ xs) q ≡ ownerAfter xs q
   unfolding ownerAfter isStart isCloning _and_
@@ -198,14 +209,11 @@ login-granted v c =
 
 denied-runs : (k : Action) (v : View) (c : Call) → denies (numberBy k v c) ≡ true → on (v .caller .running) ≡ true
 unfolding isRunning
-denied-runs Login v c h = clash (login-granted v c) (judged Login v c h .answer)
-denied-runs Clone v c h = and-l _ _ (judged Clone v c h .running)
-denied-runs SendSignal v c h = and-l _ _ (judged SendSignal v c h .running)
-denied-runs SetLevel v c h = and-l _ _ (judged SetLevel v c h .running)
-denied-runs Terminate v c h = and-l _ _ (judged Terminate v c h .running)
-denied-runs Create v c h = and-l _ _ (judged Create v c h .running)
-denied-runs OnObject v c h = and-l _ _ (judged OnObject v c h .running)
-denied-runs Unknown v c h = and-l _ _ (judged Unknown v c h .running)
+denied-runs k v c h =
+    let j = judged k v c h in
+    by-test (isLogin k)
+    (λ l. clash (login-granted v c) (subst (λ (z : Action). passes (answers z v c .combined) ≡ false) (is-login k l) (j .answer)))
+    (λ l. and-l _ _ (rw l at (j .running)))
 
 -- a denied call's caller is owned by one of the sixteen, the one whom the history tells
 pub denied-owner : (f : Facility) (c : Call) (xs : List Step) → Owned xs f → denies (number f c) ≡ true

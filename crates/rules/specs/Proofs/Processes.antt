@@ -2,12 +2,12 @@
 use Prim.Native.Nat.{ℕ, _<_}
 use mathlib.Core.Path.{_≡_, refl, subst⁻¹, subst}
 use mathlib.Core.Logic.{_≢_}
-use mathlib.Core.Bool.{Bool, true, false}
+use mathlib.Core.Bool.{true, cond}
 use mathlib.Core.List.{List}
 use lib.Dec.{ltb}
 use borrow.Author.Tests.{ltb-true}
 use Rattle.rules.specs.Types.{Call, Process, Object, Facility}
-use Rattle.labels.specs.Laws.Decisions.{clash, by-test, by-eq}
+use Rattle.labels.specs.Laws.Decisions.{by-test, by-eq}
 use Rattle.state.specs.Shaped.{Shaped}
 use Rattle.state.specs.Laws.ReadBack.{process-same, process-other}
 use Rattle.answers.specs.Outcomes.{denies}
@@ -56,78 +56,71 @@ unfolding putProcess putOpens putObject dropObject
 effect-untouched k f c =
     effect-leaves untouched (record { process = λ g p r. refl; opens = λ g l. refl; object = λ g o. refl; dropped = λ g t. refl }) k f c
 
--- whether an accepted call of an action puts a process, which one, and what that becomes
-abbrev pub puts : Action → Call → Bool
-puts Login c = true
-puts Clone c = true
-puts SendSignal c = true
-puts SetLevel c = true
-puts Terminate c = true
-puts Create c = inDirectory (c .extra)
-puts OnObject c = true
-puts Unknown c = false
+-- what an accepted call of an action puts: no process, or one at a number
+pub data Put : Type 0 where
+  None : Put
+  At : ℕ → Process → Put
 
-abbrev pub putNumber : Action → Call → ℕ
-putNumber Login c = c .process
-putNumber Clone c = c .target
-putNumber SendSignal c = c .target
-putNumber SetLevel c = c .process
-putNumber Terminate c = c .process
-putNumber Create c = c .process
-putNumber OnObject c = c .process
-putNumber Unknown c = c .process
+abbrev pub put : Action → View → Call → Put
+put Login v c = At (c .process) (freshProcess (c .extra))
+put Clone v c = At (c .target) (v .caller)
+put SendSignal v c = At (c .target) (signalled v)
+put SetLevel v c = At (c .process) (levelled v c)
+put Terminate v c = At (c .process) noProcess
+put Create v c = cond (inDirectory (c .extra)) (At (c .process) (moved v c)) None
+put OnObject v c = At (c .process) (moved v c)
+put Unknown v c = None
 
-abbrev pub putBy : Action → View → Call → Process
-putBy Login v c = freshProcess (c .extra)
-putBy Clone v c = v .caller
-putBy SendSignal v c = signalled v
-putBy SetLevel v c = levelled v c
-putBy Terminate v c = noProcess
-putBy Create v c = moved v c
-putBy OnObject v c = moved v c
-putBy Unknown v c = v .caller
+-- what holds of the process that is put, and that process q is another
+abbrev pub New : (ℕ → Process → Type 0) → Put → Type 0
+New P None = Unit {0}
+New P (At p r) = P p r
 
--- process q is not the one that is put: so it is not that of a login, nor the new one of a cloning, nor the caller of a request on an object
-abbrev pub Unput : Action → Call → ℕ → Type 0
-Unput k c q = puts k c ≡ true → q ≢ putNumber k c
+abbrev pub Unput : Put → ℕ → Type 0
+Unput None q = Unit {0}
+Unput (At p r) q = q ≢ p
 
-pub unput-login : (k : Action) (c : Call) (q : ℕ) → Unput k c q → isLogin k ≡ true → q ≢ c .process
-unput-login k c q u h = subst (λ (z : Action). Unput z c q) (is-login k h) u refl
+-- so it is not that of a login, nor the new one of a cloning, nor the caller of a request on an object
+pub unput-login : (k : Action) (v : View) (c : Call) (q : ℕ) → Unput (put k v c) q → isLogin k ≡ true → q ≢ c .process
+unput-login k v c q u h = subst (λ (z : Action). Unput (put z v c) q) (is-login k h) u
 
-pub unput-clone : (k : Action) (c : Call) (q : ℕ) → Unput k c q → isClone k ≡ true → q ≢ c .target
-unput-clone k c q u h = subst (λ (z : Action). Unput z c q) (is-clone k h) u refl
+pub unput-clone : (k : Action) (v : View) (c : Call) (q : ℕ) → Unput (put k v c) q → isClone k ≡ true → q ≢ c .target
+unput-clone k v c q u h = subst (λ (z : Action). Unput (put z v c) q) (is-clone k h) u
 
-pub unput-caller : (k : Action) (c : Call) (q : ℕ) → Unput k c q → needsObject k (c .extra) ≡ true → q ≢ c .process
-unput-caller k c q u h =
+pub unput-caller : (k : Action) (v : View) (c : Call) (q : ℕ) → Unput (put k v c) q → needsObject k (c .extra) ≡ true → q ≢ c .process
+unput-caller k v c q u h =
     needs k (c .extra) h
-    (λ e. subst (λ (z : Action). Unput z c q) e u (subst (λ (z : Action). needsObject z (c .extra) ≡ true) e h))
-    (λ e. subst (λ (z : Action). Unput z c q) e u refl)
+    (λ e.
+    let d : inDirectory (c .extra) ≡ true = subst (λ (z : Action). needsObject z (c .extra) ≡ true) e h in
+    rw d at (subst (λ (z : Action). Unput (put z v c) q) e u))
+    (λ e. subst (λ (z : Action). Unput (put z v c) q) e u)
 
 -- an accepted call: what holds of the process that it puts and of those that it leaves holds of each
 pub each-effect : (P : ℕ → Process → Type 0) (k : Action) (f : Facility) (c : Call) → Shaped f → Passed k (viewOf f c) c
-    → (puts k c ≡ true → P (putNumber k c) (putBy k (viewOf f c) c)) → ((q : ℕ) → Unput k c q → P q (processOf f q)) → Each P (effectBy k f c)
+    → New P (put k (viewOf f c) c) → ((q : ℕ) → Unput (put k (viewOf f c) c) q → P q (processOf f q)) → Each P (effectBy k f c)
 unfolding effectFrom putOpens
-each-effect P Login f c s q new old = each f (c .process) _ P s (q .process) (new refl) (λ p n. old p (λ z. n))
-each-effect P Clone f c s q new old = each f (c .target) _ P s (ltb-true _ _ (q .cloned)) (new refl) (λ p n. old p (λ z. n))
-each-effect P SendSignal f c s q new old = each f (c .target) _ P s (ltb-true _ _ (q .signalled)) (new refl) (λ p n. old p (λ z. n))
-each-effect P SetLevel f c s q new old = each f (c .process) _ P s (q .process) (new refl) (λ p n. old p (λ z. n))
-each-effect P Terminate f c s q new old = each f (c .process) _ P s (q .process) (new refl) (λ p n. old p (λ z. n))
+each-effect P Login f c s q new old = each f (c .process) _ P s (q .process) new old
+each-effect P Clone f c s q new old = each f (c .target) _ P s (ltb-true _ _ (q .cloned)) new old
+each-effect P SendSignal f c s q new old = each f (c .target) _ P s (ltb-true _ _ (q .signalled)) new old
+each-effect P SetLevel f c s q new old = each f (c .process) _ P s (q .process) new old
+each-effect P Terminate f c s q new old = each f (c .process) _ P s (q .process) new old
 each-effect P Create f c s q new old =
     by-test (inDirectory (c .extra))
     (λ e.
-    let E = each f (c .process) _ P s (q .process) (new e) (λ p n. old p (λ z. n)) in
+    let E = each f (c .process) _ P s (q .process) (rw e at new) (rw e at old) in
     rw e (λ p. subst⁻¹ (P p) (add-process (putProcess f (c .process) (moved (viewOf f c) c)) _ p) (E p)))
-    (λ e. rw e (λ p. subst⁻¹ (P p) (add-process f _ p) (old p (λ z. clash z e))))
+    (λ e. rw e (λ p. subst⁻¹ (P p) (add-process f _ p) ((rw e at old) p tt)))
 each-effect P OnObject f c s q new old =
-    let E = each f (c .process) _ P s (q .process) (new refl) (λ p n. old p (λ z. n)) in
+    let E = each f (c .process) _ P s (q .process) new old in
     λ p. subst⁻¹ (P p) (open-process (openChange (c .request)) (putProcess f (c .process) (moved (viewOf f c) c)) (c .process) (c .target) p) (E p)
-each-effect P Unknown f c s q new old = λ p. old p (λ z. clash z refl)
+each-effect P Unknown f c s q new old = λ p. old p tt
 
 -- the process that is put is read back
-pub process-put : (k : Action) (f : Facility) (c : Call) → Shaped f → Passed k (viewOf f c) c → puts k c ≡ true
-    → processOf (effectBy k f c) (putNumber k c) ≡ putBy k (viewOf f c) c
-process-put k f c s q h =
-    each-effect (λ p r. p ≡ putNumber k c → r ≡ putBy k (viewOf f c) c) k f c s q (λ z e. refl) (λ p u e. absurd (u h e)) (putNumber k c) refl
+pub process-put : (k : Action) (f : Facility) (c : Call) (p : ℕ) (r : Process) → Shaped f → Passed k (viewOf f c) c → put k (viewOf f c) c ≡ At p r
+    → processOf (effectBy k f c) p ≡ r
+process-put k f c p r s q e =
+    each-effect (λ n x. n ≡ p → x ≡ r) k f c s q (subst⁻¹ (New (λ n x. n ≡ p → x ≡ r)) e (λ z. refl))
+    (λ n u z. absurd (subst (λ (x : Put). Unput x n) e u z)) p refl
 
 -- a refused call leaves the processes
 pub each-refused : (P : ℕ → Process → Type 0) (f : Facility) (u n : ℕ) → Each P f → Each P (afterRefusal f u n)

@@ -1,7 +1,6 @@
 -- The lines that are stored are within the buffer, and the calls that are left lead to the facility after all.
 use Prim.Native.Nat.{_+_, _-_, _≤_, _<_}
 use mathlib.Core.Path.{_≡_, refl, sym, ap, _∙_}
-use mathlib.Core.Bool.{true, false}
 use lib.ListN.{length, drop}
 use lib.Seq.{length-take-le}
 use native.Mathlib.Omega.{arith}

@@ -1,7 +1,7 @@
 -- By whether there is a parent.
 use borrow.Author.Needs.{needs}
 use Rattle.labels.specs.Decisions.{_and_, _or_}
-use Rattle.setup.proofs.SameNumber.{none-fits, parent-fits}
+use Rattle.setup.specs.Laws.SameNumber.{none-fits, parent-fits}
 use Rattle.setup.proofs.parent_fits.Statement.{statement}
 use Rattle.setup.proofs.parent_fits.Tie as tie
 

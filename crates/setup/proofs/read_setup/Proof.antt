@@ -4,7 +4,7 @@ use Rattle.setup.proofs.read_setup.Tie as tie
 use mathlib.Core.Path.{sym, _∙_}
 use borrow.Author.Tests.{not-true, not-false}
 use borrow.Author.Needs.{needs}
-use Rattle.setup.proofs.ReadingLoop.{refused-length, allowed-records}
+use Rattle.setup.specs.Laws.ReadingLoop.{refused-length, allowed-records}
 
 returns : tie.Need-returns
 returns c = c .refused .ensures ∙ refused-length _ (sym (c .before .before .allowed-length .ensures) ∙ not-true _ (c .before .if1 .taken))

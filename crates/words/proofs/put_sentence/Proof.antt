@@ -20,7 +20,7 @@ returns c =
     let a = c1 .before .before .args in
     let t = a .t in
     stores (a .out .now) (a .place) (beforeText (t .index) (t .call) (t .before))
-    (targetText (actionOf (t .call .request)) (t .call) (t .before .target) ∷ outcomeText (t .outcome) (t .reason)
+    (targetText (actionOf (t .call .request)) (t .call) (t .before) ∷ outcomeText (t .outcome) (t .reason)
     ∷ processText (t .later .caller) (t .later .owner) ∷ laterText (t .call) (t .later .target) ∷ countText (t .outcome) (t .before) (t .count)
     ∷ (lineFeed ∷ []) ∷ [])
     (c1 .put-before .ensures ▸ c2 .put-target .ensures ▸ c3 .put-outcome .ensures ▸ c4 .put-process .ensures ▸ c5 .put-later .ensures

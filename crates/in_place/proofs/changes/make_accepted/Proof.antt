@@ -3,6 +3,7 @@ use mathlib.Core.Path.{refl, sym, _∙_, ap}
 use Prim.Native.Nat.{ℕ}
 use borrow.Author.Needs.{needs}
 use Rattle.in_place.proofs.Changed.{becomes-by}
+use Rattle.in_place.proofs.Seen.{known-moved}
 use Rattle.requests.specs.Laws.Actions.{acts-on-object, is-unknown}
 use Rattle.rules.specs.Effects.{changeOf}
 use Rattle.rules.specs.Requests.{actionOf}
@@ -58,11 +59,13 @@ returns-6 c =
 returns-7 : tie.Need-returns-7
 returns-7 c =
     let m = c .before .before .before .before .before .before .before .match .rest in
-    let a = c .before .before .before .before .before .before .before .before .before .args in
+    let e = c .before .before .before .before .before .before .before .before .before in
+    let a = e .args in
+    let r = known-moved (a .v) (a .c) _ _ (e .pre .1) (c .before .before .before .before .before .moved .ensures) in
     let k = acts-on-object _ (m .0 .0 .0 .0 .0 .1) (m .0 .0 .0 .0 .1) (m .0 .0 .0 .1) (m .0 .0 .1) (m .0 .1) (m .1)
     (c .before .before .before .before .before .before .if1 .taken) in
     becomes-by (a .s .now) _ _ _ (ap (λ x. changeOf x (a .v) (a .c)) k
-    ∙ (λ i. UseObject (a .c .process) (sym (c .before .before .before .before .before .moved .ensures) i) (a .c .target)
+    ∙ (λ i. UseObject (a .c .process) (sym r i) (a .c .target)
     (sym (c .before .before .before .open-change .ensures) i)))
     (c .before .before .use-object .ensures)
 

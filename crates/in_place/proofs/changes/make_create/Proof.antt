@@ -12,6 +12,7 @@ use Rattle.state.specs.declared.Change.the-variants.{CreateObject, EnterObject}
 use Rattle.state.specs.declared.Object.{Object}
 use Rattle.state.specs.declared.Process.{Process}
 use Rattle.in_place.proofs.Changed.{becomes-by}
+use Rattle.in_place.proofs.Seen.{known-moved}
 use Rattle.in_place.proofs.changes.make_create.Statement.{statement}
 use Rattle.in_place.proofs.changes.make_create.Tie as tie
 
@@ -27,9 +28,11 @@ returns c =
     let o = c .before .before .before .before in
     let m = o .before in
     let d = m .before .before in
-    let a = d .before .before .args in
+    let e = d .before .before in
+    let a = e .args in
+    let r = known-moved (a .v) (a .c) _ _ (e .pre .1) (m .moved .ensures) in
     becomes-by (a .s .now) _ (changeOf Create (a .v) (a .c)) _
-    (inside (a .v) (a .c) _ _ (d .in-directory .ensures) _ (m .before .if1 .taken) (m .moved .ensures) (o .created .ensures))
+    (inside (a .v) (a .c) _ _ (d .in-directory .ensures) _ (m .before .if1 .taken) r (o .created .ensures))
     (c .before .before .create-object .ensures)
 
 returns-2 : tie.Need-returns-2

@@ -15,7 +15,6 @@ returns c =
       receiver = c .before .before .before .process-in .ensures i;
       object = c .before .before .object-in .ensures i;
       opens = c .before .opens-in .ensures i;
-      flags = a .flags;
       owner =
           (c .user-in .ensures
           ∙ ap (λ (r : Process). userOf (facilityAt s) (r .owner)) (c .before .before .before .process-in .ensures)) i;

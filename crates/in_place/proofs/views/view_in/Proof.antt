@@ -14,18 +14,20 @@ returns c =
     let target = switches .before in
     let owner = target .before in
     let caller = owner .before in
-    let s = caller .before .before .args .s .now in
+    let looked = caller .before in
+    let s = looked .before .before .args .s .now in
     λ i. record {
       switches = switches .switches-in .ensures i;
       users = c .before .byte-in .ensures i;
       entered = c .byte-in2 .ensures i;
       caller = caller .process-in .ensures i;
       owner = (owner .user-in .ensures ∙ ap (λ (r : Process). userOf (facilityAt s) (r .owner)) (caller .process-in .ensures)) i;
-      target = target .target-in .ensures i;
+      target = target .target-for .ensures i;
+      looked = looked .looked-for .ensures i;
     }
 
 pub view-in-spec : {M : Type 1} → statement M
 view-in-spec =
     tie.close
     (tie.spec (λ c κs. search needs) (λ c κs. search needs) (λ c κs. search needs) (λ c κs. search needs) (λ c κs. search needs)
-    (λ c κs. search needs) returns)
+    (λ c κs. search needs) (λ c κs. search needs) returns)

@@ -1,3 +1,0 @@
--- Laws that only this crate's proofs cite.
-pub mod SameNumber
-pub mod ReadingLoop

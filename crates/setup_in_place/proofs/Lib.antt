@@ -1,0 +1,2 @@
+-- Laws that only this crate's proofs cite.
+pub mod AsRead
