@@ -7,7 +7,7 @@
 #include "lines.h"
 #include "names.h"
 
-enum { CALL = 4, REQUEST = 0, PROCESS = 1, TARGET = 2, EXTRA = 3, TEXT_BLOCK = 65536 };
+enum { REQUEST = 0, PROCESS = 1, TARGET = 2, EXTRA = 3, TEXT_BLOCK = 65536 };
 
 /* What a request's target and extra are called, null where it has none, and what stands behind the request in its line. */
 struct form { const char *target, *extra, *rest; };
@@ -65,7 +65,7 @@ static void add_call(struct bytes *b, const uint8_t *c)
     add_text(b, "\n");
 }
 
-enum status calls_to_text(const char *file)
+enum status calls_to_text(const char *file, const char *into)
 {
     struct bytes calls = {0}, text = {0};
     if (!read_whole(file, SIZE_MAX, &calls)) return failed(name_of(file));
@@ -74,10 +74,11 @@ enum status calls_to_text(const char *file)
         s = DONE;
         for (size_t i = 0; i < calls.length && s == DONE; i += CALL) {
             add_call(&text, calls.at + i);
-            if (text.length < TEXT_BLOCK && i + CALL < calls.length) continue;
+            if (into != NULL || text.length < TEXT_BLOCK) continue;
             s = write_out(text.at, text.length);
             text.length = 0;
         }
+        if (s == DONE && (into != NULL || text.length > 0)) s = write_into(into, text.at, text.length);
     } else {
         size_t left = calls.length % CALL;
         tell("%s: %zu byte%s left over after call %zu, and a call has %d", name_of(file), left, left == 1 ? "" : "s", calls.length / CALL, CALL);
@@ -98,10 +99,15 @@ static bool put(const struct line *l, struct call_text *c, int place, const char
     return true;
 }
 
-/* A key with a number. */
+/* A key with a number, and one with a number or a name. */
 static bool put_number(struct line *l, struct call_text *c, int place, const char *by, const char *what)
 {
     return put(l, c, place, by) && take_number(l, what, 255, &c->bytes[place]);
+}
+
+static bool put_thing(struct line *l, struct call_text *c, int place, const char *by, enum thing thing, const char *what)
+{
+    return put(l, c, place, by) && take_thing(l, thing, what, 255, &c->bytes[place]);
 }
 
 static bool put_set(struct line *l, struct call_text *c)
@@ -130,22 +136,27 @@ static bool put_request(struct line *l, struct call_text *c)
 
 static bool read_part(struct line *l, struct call_text *c)
 {
-    if (accept(l, "process")) return put_number(l, c, PROCESS, "process", "a process number");
-    if (accept(l, "object")) return put_number(l, c, TARGET, "object", "an object number");
-    if (accept(l, "user")) return put_number(l, c, EXTRA, "user", "a user number");
+    if (accept(l, "process")) return put_thing(l, c, PROCESS, "process", PROCESS_NAME, "a process number");
+    if (accept(l, "object")) return put_thing(l, c, TARGET, "object", OBJECT, "an object number");
+    if (accept(l, "user")) return put_thing(l, c, EXTRA, "user", USER, "a user number");
     if (accept(l, "request")) return put_number(l, c, REQUEST, "request", "a request number");
     if (accept(l, "target")) return put_number(l, c, TARGET, "target", "a target");
     if (accept(l, "extra")) return put_number(l, c, EXTRA, "extra", "an extra");
     if (accept(l, "categories")) return put_set(l, c);
     if (accept(l, "to")) {
         accept(l, "process");
-        return put_number(l, c, TARGET, "to", "a process number");
+        return put_thing(l, c, TARGET, "to", PROCESS_NAME, "a process number");
     }
     if (accept(l, "in")) {
         accept(l, "object");
-        return put_number(l, c, TARGET, "in", "the number of a directory");
+        return put_thing(l, c, TARGET, "in", OBJECT, "the number of a directory");
     }
     if (accept(l, "level")) return put_level(l, c);
+    uint8_t object = 0;
+    if (accept_object(l, &object)) {           /* an object by its name alone */
+        c->bytes[TARGET] = object;
+        return put(l, c, TARGET, "object");
+    }
     return put_request(l, c);
 }
 
@@ -167,7 +178,7 @@ static bool fits(const struct line *l, const struct call_text *c, const struct f
     return strcmp(by, place == TARGET ? "target" : "extra") == 0 ? true : wrong_word(l, c, form, "takes no", by);
 }
 
-static bool read_call(struct line *l, void *into)
+bool read_call(struct line *l, uint8_t call[CALL])
 {
     struct call_text c = {0};
     while (!at_end(l))
@@ -176,15 +187,27 @@ static bool read_call(struct line *l, void *into)
     if (c.by[PROCESS] == NULL) return mistake(l, "expected process with its number");
     const struct form *form = form_of(c.bytes[REQUEST], c.bytes[EXTRA]);
     if (!fits(l, &c, form, EXTRA) || !fits(l, &c, form, TARGET)) return false;
-    add(into, c.bytes, sizeof c.bytes);
+    memcpy(call, c.bytes, CALL);
     return true;
 }
 
-enum status calls_from_text(const char *file)
+static bool add_call_of(struct line *l, void *into)
 {
-    struct bytes calls = {0};
-    enum status s = read_lines(file, read_call, &calls);
-    if (s == DONE) s = write_out(calls.at, calls.length);
+    uint8_t call[CALL];
+    if (!read_call(l, call)) return false;
+    add(into, call, CALL);
+    return true;
+}
+
+/* The names of users and objects are those of the text of a set-up, where one is named. */
+enum status calls_from_text(const char *file, const char *setup, const char *into)
+{
+    struct given given = {0};
+    struct bytes calls = {0}, names_of = {0};
+    enum status s = setup != NULL ? read_setup_text(setup, &given, &names_of) : DONE;
+    if (s == DONE) s = read_lines(file, &given, add_call_of, &calls);
+    if (s == DONE) s = write_into(into, calls.at, calls.length);
+    free(names_of.at);
     free(calls.at);
     return s;
 }

@@ -7,6 +7,7 @@
 #include <stdio.h>
 #include <stdlib.h>
 #include <string.h>
+#include <sys/stat.h>
 #include <unistd.h>
 
 void tell(const char *format, ...)
@@ -177,6 +178,49 @@ bool read_whole(const char *name, size_t most, struct bytes *b)
 enum status write_out(const void *from, size_t length)
 {
     return write_all(STDOUT_FILENO, from, length) ? DONE : failed("standard output");
+}
+
+/* A new file beside the old one, which takes its place. */
+static bool replace(const char *file, const char *beside, const void *from, size_t length)
+{
+    mode_t mask = umask(0);
+    umask(mask);
+    int fd = open(beside, O_WRONLY | O_CREAT | O_EXCL | O_CLOEXEC, 0666 & ~mask);
+    if (fd < 0) return false;
+    bool is_written = write_all(fd, from, length);
+    int why = errno;
+    if (close(fd) != 0 && is_written) {
+        is_written = false;
+        why = errno;
+    }
+    if (is_written && rename(beside, file) == 0) return true;
+    if (is_written) why = errno;
+    unlink(beside);
+    errno = why;
+    return false;
+}
+
+enum status write_into(const char *file, const void *from, size_t length)
+{
+    if (file == NULL) return write_out(from, length);
+    struct stat is;
+    if (stat(file, &is) == 0 && !S_ISREG(is.st_mode)) {
+        int fd = open(file, O_WRONLY | O_CLOEXEC);
+        bool is_written = fd >= 0 && write_all(fd, from, length);
+        int why = errno;
+        if (fd >= 0 && close(fd) != 0 && is_written) {
+            is_written = false;
+            why = errno;
+        }
+        errno = why;
+        return is_written ? DONE : failed(name_of(file));
+    }
+    struct bytes beside = {0};
+    add_text(&beside, "%s.%ld.new", file, (long)getpid());
+    add(&beside, "", 1);
+    enum status s = replace(file, (const char *)beside.at, from, length) ? DONE : failed(name_of(file));
+    free(beside.at);
+    return s;
 }
 
 enum status close_out(void)

@@ -45,6 +45,10 @@ bool read_whole(const char *name, size_t most, struct bytes *b);
 /* Writes all bytes to standard output, or tells why not. */
 enum status write_out(const void *from, size_t length);
 
+/* Writes all bytes into a file, or to standard output where it is null. The file is put in its place when all of it is written: where something fails the old
+ * one stays. What is no plain file, as /dev/null, is written to as it is. */
+enum status write_into(const char *file, const void *from, size_t length);
+
 /* Closes standard output, which may be where a write fails after all. */
 enum status close_out(void);
 

@@ -99,12 +99,53 @@ bool is_place_next(const struct line *l)
     return !at_end(l) && l->words[l->next].at[l->words[l->next].length - 1] == ':';
 }
 
-bool take_place(struct line *l, unsigned most, uint8_t *out)
+static const char *const things[THINGS] = {"user", "object", "process"};
+
+/* `user 3:` says which one it is meant to be, so that a line put in between does not turn the later numbers into others; `user ann:` gives a name. */
+bool take_place(struct line *l, enum thing what, unsigned is)
 {
-    char expected[128];
+    char word[256];
     struct word w = l->words[l->next];
-    snprintf(expected, sizeof expected, "a number from 0 to %u with a colon", most);
-    if (!is_number(w, w.length - 1, most, out)) return unexpected(l, expected);
+    uint8_t number = 0;
+    w.length--;
+    if (is_number_next(l)) {
+        if (!is_number(w, w.length, 254, &number)) return unexpected(l, "a number from 0 to 254 or a name, with a colon");
+        l->next++;
+        return number == is ? true : mistake(l, "this is %s %u, not %u", things[what], is, number);
+    }
+    if (!may_be_name(w.at, w.length))
+        return mistake(l, "%s is no name (a letter, then letters, digits, - or _, and no word of the text's own)", quoted(w, word));
+    if (number_of(l->given, what, w.at, w.length) >= 0) return mistake(l, "%s %s is named twice", things[what], quoted(w, word));
+    l->next++;
+    if (is < NUMBERS) give_name(l->given, what, (uint8_t)is, w.at, w.length);
+    return true;
+}
+
+bool take_thing(struct line *l, enum thing what, const char *expected, unsigned most, uint8_t *out)
+{
+    char word[256];
+    if (at_end(l) || is_number_next(l)) {
+        if (!take_number(l, expected, most, out)) return false;
+        if (what == PROCESS_NAME) l->given->named_by_number[*out] = true;
+        return true;
+    }
+    struct word w = l->words[l->next];
+    int n = number_of(l->given, what, w.at, w.length);
+    if (n < 0 && what == PROCESS_NAME && may_be_name(w.at, w.length)) {
+        n = process_number_of(l->given, w.at, w.length);
+        if (n < 0) return mistake(l, "no process number is left for %s", quoted(w, word));
+    }
+    if (n < 0) return mistake(l, "expected %s from 0 to %u, or the name of one, not %s", expected, most, quoted(w, word));
+    *out = (uint8_t)n;
+    l->next++;
+    return true;
+}
+
+bool accept_object(struct line *l, uint8_t *out)
+{
+    int n = at_end(l) ? -1 : number_of(l->given, OBJECT, l->words[l->next].at, l->words[l->next].length);
+    if (n < 0) return false;
+    *out = (uint8_t)n;
     l->next++;
     return true;
 }
@@ -189,30 +230,37 @@ static bool split(struct line *l, const char *at, const char *end)
 static bool read_whole_lines(struct line *l, struct bytes *text, size_t *seen, bool is_end, line_reader *read, void *into)
 {
     const char *at = (const char *)text->at, *end = at + text->length;
+    bool is_good = true;
     for (;;) {
         const char *feed = memchr(at + *seen, '\n', (size_t)(end - at) - *seen);
         const char *stop = feed != NULL ? feed : end;
         if (feed == NULL && (!is_end || at == end)) break;
         l->number++;
-        if (!split(l, at, stop)) return false;
-        if (l->count > 0 && !read(l, into)) return false;
+        if (!split(l, at, stop) || (l->count > 0 && !read(l, into))) is_good = false;
         at = feed != NULL ? feed + 1 : end;
         *seen = 0;
     }
     *seen = text->length = (size_t)(end - at);
     memmove(text->at, at, text->length);
-    return true;
+    return is_good;
 }
 
-enum status read_lines(const char *file, line_reader *read, void *into)
+enum status read_lines_of(const char *name, struct bytes *text, struct given *given, line_reader *read, void *into)
 {
-    struct line l = {.file = name_of(file)};
+    struct line l = {.file = name, .given = given};
+    size_t seen = 0;
+    return text->length == 0 || read_whole_lines(&l, text, &seen, true, read, into) ? DONE : REFUSED;
+}
+
+enum status read_lines(const char *file, struct given *given, line_reader *read, void *into)
+{
+    struct line l = {.file = name_of(file), .given = given};
     struct bytes text = {0};
     size_t seen = 0;
     ssize_t got = 1;
     int fd = open_input(file);
     enum status s = fd < 0 ? failed(l.file) : DONE;
-    while (s == DONE && got > 0) {
+    while (s != FAILED && got > 0) {
         got = add_some(fd, &text);
         if (got < 0) s = failed(l.file);
         else if (!read_whole_lines(&l, &text, &seen, got == 0, read, into)) s = REFUSED;

@@ -6,6 +6,7 @@
 #include <stddef.h>
 #include <stdint.h>
 
+#include "given.h"
 #include "io.h"
 #include "names.h"
 
@@ -19,13 +20,17 @@ struct line {
     size_t number;                             /* from 1 */
     size_t count, next;
     struct word words[WORDS_MOST];
+    struct given *given;                       /* the names so far */
 };
 
-/* Reads one line that has words; false after a mistake, which was told. */
+/* Reads one line that has words; false after a mistake, which was told. The next lines are read all the same, so that all mistakes are told. */
 typedef bool line_reader(struct line *l, void *into);
 
-/* Reads the text of a file, or of standard input, line by line; blank lines and comments are left out. */
-enum status read_lines(const char *file, line_reader *read, void *into);
+/* Reads the text of a file, or of standard input, line by line; blank lines and comments are left out. Refused where there was a mistake. */
+enum status read_lines(const char *file, struct given *given, line_reader *read, void *into);
+
+/* The same of a text that was read already, of the file of this name. */
+enum status read_lines_of(const char *name, struct bytes *text, struct given *given, line_reader *read, void *into);
 
 /* Tells a mistake as `file:line: ...`; answers false. */
 bool mistake(const struct line *l, const char *format, ...) FORMAT(2, 3);
@@ -47,9 +52,15 @@ bool is_number_next(const struct line *l);
 /* Takes a number from 0 to `most`. */
 bool take_number(struct line *l, const char *what, unsigned most, uint8_t *out);
 
-/* Whether the next word ends with a colon; takes the number before it. */
+/* Takes the number of a user, an object or a process, or its name. A process that is named first gets a number. */
+bool take_thing(struct line *l, enum thing what, const char *expected, unsigned most, uint8_t *out);
+
+/* Takes the name of an object, where the next word is one. */
+bool accept_object(struct line *l, uint8_t *out);
+
+/* Whether the next word ends with a colon. Takes the number before it, which is that of the thing, or the name that it gives to the thing. */
 bool is_place_next(const struct line *l);
-bool take_place(struct line *l, unsigned most, uint8_t *out);
+bool take_place(struct line *l, enum thing what, unsigned is);
 
 /* Takes a kind of object, by its number. */
 bool take_kind(struct line *l, uint8_t *kind);

@@ -53,7 +53,7 @@ static void add_records(struct bytes *b, const struct bytes *setup)
     }
 }
 
-enum status setup_to_text(const char *file)
+enum status setup_to_text(const char *file, const char *into)
 {
     struct bytes setup = {0}, text = {0};
     if (!read_whole(file, SETUP_READ, &setup)) return failed(name_of(file));
@@ -61,7 +61,7 @@ enum status setup_to_text(const char *file)
     enum status s = REFUSED;
     if (r.number == HV_ACCEPTED) {
         add_records(&text, &setup);
-        s = write_out(text.at, text.length);
+        s = write_into(into, text.at, text.length);
     } else {
         add_refusal(&text, &setup, setup.length == SETUP_READ, &r);
         tell("%s: %.*s", name_of(file), (int)text.length, (const char *)text.at);
@@ -141,7 +141,7 @@ static bool read_parent(struct line *l, unsigned *given, uint8_t *r)
     if (!give(l, given, PARENT, "in")) return false;
     if (accept(l, "none")) return true;
     accept(l, "object");
-    if (!take_number(l, "the number of a directory", 254, &r[6])) return false;
+    if (!take_thing(l, OBJECT, "the number of a directory", 254, &r[6])) return false;
     r[6]++;
     return true;
 }
@@ -180,13 +180,9 @@ static bool read_object(struct line *l, uint8_t *r)
     return given & LEVEL ? true : unexpected(l, "level with a level from 0 to 15 or unset");
 }
 
-/* `user 3:` says which one it is meant to be, so that a line put in between does not turn the later numbers into others. */
-static bool read_place(struct line *l, const char *what, unsigned is)
+static bool read_place(struct line *l, enum thing what, unsigned is)
 {
-    uint8_t number = 0;
-    if (!is_place_next(l)) return true;
-    if (!take_place(l, 254, &number)) return false;
-    return number == is ? true : mistake(l, "this is %s %u, not %u", what, is, number);
+    return is_place_next(l) ? take_place(l, what, is) : true;
 }
 
 static bool read_record(struct line *l, void *into)
@@ -199,10 +195,10 @@ static bool read_record(struct line *l, void *into)
         is = read_switches(l, r);
     } else if (accept(l, "user")) {
         r[0] = HV_USER_RECORD;
-        is = read_place(l, "user", t->users++) && read_user(l, r);
+        is = read_place(l, USER, t->users++) && read_user(l, r);
     } else if (accept(l, "object")) {
         r[0] = HV_OBJECT_RECORD;
-        is = read_place(l, "object", t->objects++) && read_object(l, r);
+        is = read_place(l, OBJECT, t->objects++) && read_object(l, r);
     } else {
         return unexpected(l, "switches, user or object");
     }
@@ -225,14 +221,33 @@ static enum status tell_refused(const char *file, const struct setup_text *t, co
     return REFUSED;
 }
 
-enum status setup_from_text(const char *file)
+enum status setup_of_text(const char *name, struct bytes *text, struct given *given, struct bytes *setup)
 {
     struct setup_text t = {0};
-    enum status s = read_lines(file, read_record, &t);
+    enum status s = read_lines_of(name, text, given, read_record, &t);
     if (s == DONE) {
         hv_reading r = reading_of(&t.bytes);
-        s = r.number == HV_ACCEPTED ? write_out(t.bytes.at, t.bytes.length) : tell_refused(name_of(file), &t, &r);
+        if (r.number != HV_ACCEPTED) s = tell_refused(name, &t, &r);
     }
-    free(t.bytes.at);
+    *setup = t.bytes;
+    return s;
+}
+
+enum status read_setup_text(const char *file, struct given *given, struct bytes *setup)
+{
+    struct bytes text = {0};
+    if (!read_whole(file, SIZE_MAX, &text)) return failed(name_of(file));
+    enum status s = setup_of_text(name_of(file), &text, given, setup);
+    free(text.at);
+    return s;
+}
+
+enum status setup_from_text(const char *file, const char *into)
+{
+    struct given given = {0};
+    struct bytes setup = {0};
+    enum status s = read_setup_text(file, &given, &setup);
+    if (s == DONE) s = write_into(into, setup.at, setup.length);
+    free(setup.at);
     return s;
 }

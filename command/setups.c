@@ -31,25 +31,56 @@ static void add_count(struct bytes *b, unsigned count, const char *what)
     add_text(b, "%u %s%s", count, what, count == 1 ? "" : "s");
 }
 
+static enum status say_accepted(const char *file, const hv_facility *f, const char *of_what)
+{
+    struct bytes line = {0};
+    hv_summary_record s = hv_summary_at(f);
+    add(&line, name_of(file), strlen(name_of(file)));
+    add_text(&line, ": %saccepted: ", of_what);
+    add_count(&line, s.users, "user");
+    add_text(&line, ", ");
+    add_count(&line, s.entered, "object");
+    add_text(&line, "\n");
+    enum status written = write_out(line.at, line.length);
+    free(line.at);
+    return written;
+}
+
+/* The set-up of a text: all its mistakes are told, with their lines. */
+static enum status check_text(const char *file, struct bytes *text)
+{
+    struct bytes setup = {0};
+    struct given given = {0};
+    enum status s = setup_of_text(name_of(file), text, &given, &setup);
+    if (s == DONE) {
+        hv_reading r = reading_of(&setup);
+        s = say_accepted(file, &r.facility, "text, ");
+    }
+    free(setup.at);
+    return s;
+}
+
 enum status check_setup(const char *file)
 {
     struct bytes setup = {0}, line = {0};
     if (!read_whole(file, SETUP_READ, &setup)) return failed(name_of(file));
-    hv_reading r = reading_of(&setup);
-    add(&line, name_of(file), strlen(name_of(file)));
-    add_text(&line, ": ");
-    if (r.number == HV_ACCEPTED) {
-        hv_summary_record s = hv_summary(r.facility);
-        add_text(&line, "accepted: ");
-        add_count(&line, s.users, "user");
-        add_text(&line, ", ");
-        add_count(&line, s.entered, "object");
-    } else {
-        add_refusal(&line, &setup, setup.length == SETUP_READ, &r);
+    if (is_text(setup.at, setup.length)) {
+        enum status told = check_text(file, &setup);
+        free(setup.at);
+        return told;
     }
-    add_text(&line, "\n");
-    enum status written = write_out(line.at, line.length);
+    hv_reading r = reading_of(&setup);
+    enum status s;
+    if (r.number == HV_ACCEPTED) {
+        s = say_accepted(file, &r.facility, "");
+    } else {
+        add(&line, name_of(file), strlen(name_of(file)));
+        add_text(&line, ": ");
+        add_refusal(&line, &setup, setup.length == SETUP_READ, &r);
+        add_text(&line, "\n");
+        s = write_out(line.at, line.length) == DONE ? REFUSED : FAILED;
+    }
     free(line.at);
     free(setup.at);
-    return written != DONE ? written : r.number == HV_ACCEPTED ? DONE : REFUSED;
+    return s;
 }

@@ -15,6 +15,8 @@ SETUP_TEXTS = (
     ("switches none\nobject control-data data-type security-information in none level 0 categories all category system-administrator",
      (3, 0, 0, 0, 0, 0, 0, 0, 2, 3, 0, 2, 1, 0, 0, 255)),
     ("switches none\nobject file level unset data-type none category general", (3, 0, 0, 0, 0, 0, 0, 0, 2, 0, 255, 0, 0, 0, 0, 0)),
+    ("switches none\nuser ann: 3\nobject yard: directory 0\nobject hull-lines: file 3 in yard\nobject file 0 in object yard",
+     (3, 0, 0, 0, 0, 0, 0, 0, 1, 3, 0, 0, 0, 0, 0, 0, 2, 1, 0, 0, 0, 0, 0, 0, 2, 0, 3, 0, 0, 0, 1, 0, 2, 0, 0, 0, 0, 0, 1, 0)),
 )
 CALL_TEXTS = (
     ("", ()), ("# nothing\n\n", ()), ("login user 2 process 1", (21, 1, 0, 2)), ("process 1 login user 2 # x\nprocess 1 terminate", (21, 1, 0, 2, 18, 1, 0, 0)),
@@ -27,12 +29,15 @@ CALL_TEXTS = (
     ("process 1 create extra 9 target 2", (4, 1, 2, 9)), ("process 1 create in 2 extra 9", (4, 1, 2, 9)),
     ("request 13 process 0 object 2", (13, 0, 2, 0)), ("request 99 process 1 target 2 extra 3", (99, 1, 2, 3)),
     ("process 0 terminate target 1 extra 2", (18, 0, 1, 2)), ("process 0 login extra 1", (21, 0, 0, 1)),
+    ("process left login user 0\nprocess 1 terminate\nprocess right terminate\nprocess left send-signal to right",
+     (21, 0, 0, 0, 18, 1, 0, 0, 18, 2, 0, 0, 16, 0, 2, 0)),
 )
 KINDS = "file, directory, channel or control-data"
 OBJECT = "level, categories, category, data-type, in, or a flag (read-only, no-execute, no-delete, search-only or add-inherited)"
 SET = "categories (letters a to h, each once, or all, or none)"
 PART = "a request such as read-open, or process, object, to, in, user, level, categories, request, target or extra"
 MODULES = "mac, fc, sim, ff or none"
+NAME = "a letter, then letters, digits, - or _, and no word of the text's own"
 # Texts with one mistake: the line, and what is told.
 SETUP_MISTAKES = (
     ("swiches mac", 1, "expected switches, user or object, not 'swiches'"),
@@ -58,9 +63,12 @@ SETUP_MISTAKES = (
     ("switches none\nuser 3 trustd", 2, "expected clearance, categories, role, trusted or untrusted, not 'trustd'"),
     ("switches none\nuser 0: 3\nuser 0: 3", 3, "this is user 1, not 0"),
     ("switches none\nobject 1: file 3", 2, "this is object 0, not 1"),
-    ("switches none\nobject x: file 3", 2, "expected a number from 0 to 254 with a colon, not 'x:'"),
-    ("switches none\nuser : 1", 2, "expected a number from 0 to 254 with a colon, not ':'"),
-    ("switches none\nuser 255: 1", 2, "expected a number from 0 to 254 with a colon, not '255:'"),
+    ("switches none\nobject in: file 3", 2, "'in' is no name (%s)" % NAME),
+    ("switches none\nuser : 1", 2, "'' is no name (%s)" % NAME),
+    ("switches none\nuser a.b: 1", 2, "'a.b' is no name (%s)" % NAME),
+    ("switches none\nuser ann: 1\nuser ann: 1", 3, "user 'ann' is named twice"),
+    ("switches none\nobject yard: directory 0\nobject file 0 in yrd", 3, "expected the number of a directory from 0 to 254, or the name of one, not 'yrd'"),
+    ("switches none\nuser 255: 1", 2, "expected a number from 0 to 254 or a name, with a colon, not '255:'"),
     ("switches none\nuser 3 # one\n\nobject fil level 3", 4, "unknown kind 'fil' (%s)" % KINDS),
     ("switches none\nobject", 2, "expected a kind (%s), but the line ends" % KINDS),
     ("switches none\nobject control dat 3", 2, "unknown kind 'control' (%s)" % KINDS),
@@ -106,7 +114,11 @@ CALL_MISTAKES = (
     ("process 0", 1, "expected a request such as read-open, or request with a number"),
     ("read-open object 1", 1, "expected process with its number"),
     ("process 256 terminate", 1, "expected a process number from 0 to 255, not '256'"),
-    ("process -1 terminate", 1, "expected a process number from 0 to 255, not '-1'"),
+    ("process -1 terminate", 1, "expected a process number from 0 to 255, or the name of one, not '-1'"),
+    ("process login user 0", 1, "expected a process number from 0 to 255, or the name of one, not 'login'"),
+    ("process 0 login user ann", 1, "expected a user number from 0 to 255, or the name of one, not 'ann'"),
+    ("process 0 read-open object hull-lines", 1, "expected an object number from 0 to 255, or the name of one, not 'hull-lines'"),
+    ("".join("process p%d terminate\n" % n for n in range(33)), 33, "no process number is left for 'p32'"),
     ("process", 1, "expected a process number from 0 to 255, but the line ends"),
     ("process 0 process 1 terminate", 1, "process is given twice"),
     ("process 0 terminate terminate", 1, "the request is given twice"),

@@ -46,7 +46,7 @@ extern "C" {
 #endif
 
 /* The version of these declarations and the size of a facility, to be compared with hv_version() and hv_facility_size() of the library that is linked. */
-#define HV_VERSION 8
+#define HV_VERSION 9
 #define HV_FACILITY_SIZE 5580
 
 /* Limits: users, processes and objects of a facility, and bytes of a set-up. */
@@ -59,9 +59,11 @@ extern "C" {
 #define HV_LINE_MOST 49
 #define HV_SHORT_MOST 6
 
-/* The bytes of a buffer for a line in words, and those that a word of hv_request_words and its like, and the text of hv_why_words, has at most. */
+/* The bytes of a buffer for a line in words, and those that a word of hv_request_words and its like, a label of hv_label_words, and the text of
+ * hv_why_words, has at most. */
 #define HV_WORDS_ROOM 65536
 #define HV_WORD_MOST 31
+#define HV_LABEL_MOST 13
 #define HV_WHY_MOST 212
 
 /* The bytes of stack that a function needs at most, its arguments and its result by value not among them: the caller has these. Read off the machine
@@ -69,7 +71,8 @@ extern "C" {
 #define HV_STACK_AT 8192             /* every function that is in neither of the next two lists */
 #define HV_STACK_BY_VALUE 20480      /* hv_query, hv_why, hv_why_words, hv_write_setup, hv_user, hv_process, hv_object, hv_most_moves, hv_effective_flags,
                                       * hv_flag_source, hv_open_marks, hv_refusals, hv_summary, hv_account_start, hv_account_holds */
-#define HV_STACK_MOST 98304          /* hv_enforce, hv_read_setup, hv_replay, hv_holds, hv_account_step, hv_put_block, hv_put_words */
+#define HV_STACK_MOST 98304          /* hv_enforce, hv_read_setup, hv_replay, hv_holds, hv_account_step, hv_put_block, hv_put_words,
+                                      * hv_put_short_words */
 
 /* Requests: byte 0 of a call. Byte 1 is the process p, byte 2 the target t, byte 3 the extra e (hv_call). */
 enum hv_request {
@@ -129,6 +132,9 @@ enum hv_kind { HV_FILE = 0, HV_DIRECTORY = 1, HV_CHANNEL = 2, HV_CONTROL_DATA = 
 enum hv_role { HV_GENERAL = 0, HV_SECURITY_OFFICER = 1, HV_SYSTEM_ADMINISTRATOR = 2 };
 enum hv_marks { HV_OPEN_READING = 1, HV_OPEN_WRITING = 2 };
 #define HV_UNSET 255
+
+/* Classes of requests (hv_class): the kind does not have the request; it reads; it writes; both; neither. */
+enum hv_request_class { HV_CLASS_ABSENT = 0, HV_CLASS_R = 1, HV_CLASS_W = 2, HV_CLASS_B = 3, HV_CLASS_N = 4 };
 
 /* Kinds of set-up record: byte 0 of one. Categories that FC looks at, and data types, of an object. */
 enum hv_record { HV_USER_RECORD = 1, HV_OBJECT_RECORD = 2, HV_SWITCHES_RECORD = 3 };
@@ -259,6 +265,12 @@ size_t hv_why_words_at(const hv_facility *f, hv_call call, uint8_t *out, size_t 
  * hold it all. Where `first` is 2^63 or more no call is made. [blockText, facilityAfter, lines/Blocks] */
 size_t hv_put_block_at(hv_facility *f, uint64_t first, const uint8_t *calls, size_t calls_length, uint8_t *out, size_t out_length);
 
+/* A call and its line in words, with its newline, at the front of `out`, which has HV_WORDS_ROOM bytes; the facility becomes the one after the call: how
+ * many bytes the line has. The first is the full line, which the program run_words prints; the second the short one: what was asked, what it came to, why
+ * not, and what changed. [sentence, words/Sentences; shortSentence, words/Short; after, rules/Calls] */
+size_t hv_put_words_at(hv_facility *f, uint64_t index, hv_call call, uint8_t *out);
+size_t hv_put_short_words_at(hv_facility *f, uint64_t index, hv_call call, uint8_t *out);
+
 /* A user, a process, an object; all fields are 0 for a number that is none. A process's `moves` is how often its current label moved by itself, at
  * most hv_most_moves_at of its owner after any calls from a fresh facility. [userOf, processOf, objectOf, state/State] */
 hv_user_record hv_user_at(const hv_facility *f, uint8_t user);
@@ -295,6 +307,8 @@ hv_enforced hv_enforce(hv_facility f, hv_call call);
 hv_failed hv_why(hv_facility f, hv_call call);
 size_t hv_why_words(hv_facility f, hv_call call, uint8_t *out, size_t length);
 hv_printed hv_put_block(hv_facility f, uint64_t first, const uint8_t *calls, size_t calls_length, uint8_t *out, size_t out_length);
+hv_printed hv_put_words(hv_facility f, uint64_t index, hv_call call, uint8_t *out);
+hv_printed hv_put_short_words(hv_facility f, uint64_t index, hv_call call, uint8_t *out);
 hv_user_record hv_user(hv_facility f, uint8_t user);
 hv_process_record hv_process(hv_facility f, uint8_t process);
 hv_object_record hv_object(hv_facility f, uint8_t object);
@@ -304,10 +318,6 @@ uint8_t hv_flag_source(hv_facility f, uint8_t t, uint8_t flag);
 uint8_t hv_open_marks(hv_facility f, uint8_t process, uint8_t object);
 uint32_t hv_refusals(hv_facility f, uint8_t user);
 hv_summary_record hv_summary(hv_facility f);
-
-/* A call and its line in words, as the program run_words prints it, with its newline, at the front of `out`, which has HV_WORDS_ROOM bytes: the facility
- * after the call, and how many bytes the line has. [sentence, words/Sentences; after, rules/Calls] */
-hv_printed hv_put_words(hv_facility f, uint64_t index, hv_call call, uint8_t *out);
 
 /* OF LISTS OF CALLS. The facility of a set-up after calls of four bytes each; one to three left-over bytes are no call. Number and index are those of
  * hv_read_setup: with a refused set-up the calls are made on a facility with all switches off. [replayNumbers, hvozdalka/Numbers] */
@@ -338,6 +348,17 @@ size_t hv_number_words(uint8_t number, uint8_t *out, size_t length);
 size_t hv_role_words(uint8_t role, uint8_t *out, size_t length);
 size_t hv_category_words(uint8_t category, uint8_t *out, size_t length);
 size_t hv_data_type_words(uint8_t data_type, uint8_t *out, size_t length);
+
+/* A label in words, in the same way: its level, or `unset`, and behind it the letters of its categories or `all`, as `3`, `3 ab`, `15 all`; HV_LABEL_MOST
+ * hold any. [labelWord, names/Words] */
+size_t hv_label_words(hv_label label, uint8_t *out, size_t length);
+
+/* OF REQUESTS, without a facility. The class of a request on an object of this kind, one of hv_request_class; of a create in a directory the directory is
+ * the object. [classCode of classOf, rules/Requests] */
+uint8_t hv_class(uint8_t request, uint8_t kind);
+
+/* Whether the target t of a request is an object; `extra` is the kind that a create makes. [needsObject of actionOf, rules/Requests] */
+bool hv_needs_object(uint8_t request, uint8_t extra);
 
 /* WHAT THE LIBRARY WAS BUILT WITH: compare with HV_VERSION and HV_FACILITY_SIZE before anything else. */
 uint32_t hv_version(void);

@@ -9,6 +9,7 @@ import tempfile
 import model
 import reasons
 import run
+import story
 import vectors
 import words
 from model import (CLONE, CLOSE, CREATE, DELETE, EXECUTE, LOGIN, READ, READ_OPEN,
@@ -395,10 +396,10 @@ for _ in range(150):
     check(model.setup_bytes(model.read_setup(again)[2]), again, "written again")
 # in words
 check(words.tell(FF_ON + thing(1, 0, 0, 0, RO + ND) + thing(0, 255, 0, 0, ADD + NX, 1), bytes([21, 0, 0, 0, 20, 0, 1, 0]))[1],
-      "2 process 0 (user 0, general, untrusted, clearance 9, current 0, marks 0 to 15 all, automatic, moved 0 times of at most 10): "
+      "2 process 0 (user 0, general, untrusted, clearance 9, current 0, marks 0 to 15 all, automatic, moves 0 of at most 10): "
       "write-open object 1 (file, level unset, category general, data type none, read-only, no-execute, add-inherited): "
       "MAC not cared, FC not cared, SIM not cared, FF not granted, combined not granted: 12 not granted (read-only of object 0); "
-      "then user 0, general, untrusted, clearance 9, current 0, marks 0 to 15 all, automatic, moved 0 times of at most 10; refusals of user 0: 1",
+      "then user 0, general, untrusted, clearance 9, current 0, marks 0 to 15 all, automatic, moves 0 of at most 10; refusals of user 0: 1",
       "FF in words")
 check(words.tell(KINDS + thing(0, 0, 0, 0, 0, 1), b""), ["set-up refused at record 6: 19 parent is no earlier directory"], "19 in words")
 check(words.tell(b"", b""), ["set-up refused: 14 length is not allowed"], "14 in words")
@@ -590,11 +591,11 @@ assert by_signals > 50, by_signals
 # in words
 TOLD = b"".join(map(bytes, [*READ_AND_SENT, (SEND_SIGNAL, 1, 0, 0), (SEND_SIGNAL, 0, 2, 0), (SEND_SIGNAL, 0, 200, 0), (SET_LEVEL, 1, 0, 3), SIGNAL]))
 OWNER = "user 0, general, untrusted, clearance 15, "
-SENDER = OWNER + "current 2, marks 2 to 15 all, automatic, moved 1 times of at most 16"
-STILL = "not automatic, moved 0 times of at most 16"
+SENDER = OWNER + "current 2, marks 2 to 15 all, automatic, moves 1 of at most 16"
+STILL = "not automatic, moves 0 of at most 16"
 SET_TO_2, RAISED = ("%scurrent 2, marks %d to 15 all, %s" % (OWNER, mark, STILL) for mark in (0, 2))
 SET_TO_3 = OWNER + "current 3, marks 2 to 15 all, " + STILL
-BEGUN = OWNER + "current 0, marks 0 to 15 all, automatic, moved 0 times of at most 16"
+BEGUN = OWNER + "current 0, marks 0 to 15 all, automatic, moves 0 of at most 16"
 SENT = "MAC granted, FC not cared, SIM not cared, FF not cared, combined granted: 0 accepted"
 ASIDE = "MAC not cared, FC not cared, SIM not cared, FF not cared, combined not cared: "
 check(words.tell(SIGNALS, TOLD)[5:9] + words.tell(SIGNALS, TOLD)[10:],
@@ -762,9 +763,9 @@ assert at_bound > 20 and clones_at_bound > 5, (at_bound, clones_at_bound)
 # in words
 SAID = [IN, (STATUS, 0, CONTROLS + 1, 0), (STATUS, 0, CONTROLS + 1, 0), (SET_LEVEL, 0, 0, 2)]
 TOLD = words.tell(MOVING, b"".join(map(bytes, SAID)))
-MARKS = ("user 0, general, untrusted, clearance 3, current 0, marks 0 to 15 all, automatic, moved 0 times of at most 4",
-         "user 0, general, untrusted, clearance 3, current 1, marks 1 to 15 all, automatic, moved 1 times of at most 4",
-         "user 0, general, untrusted, clearance 3, current 2, marks 1 to 15 all, not automatic, moved 1 times of at most 4")
+MARKS = ("user 0, general, untrusted, clearance 3, current 0, marks 0 to 15 all, automatic, moves 0 of at most 4",
+         "user 0, general, untrusted, clearance 3, current 1, marks 1 to 15 all, automatic, moves 1 of at most 4",
+         "user 0, general, untrusted, clearance 3, current 2, marks 1 to 15 all, not automatic, moves 1 of at most 4")
 check(TOLD, ["1 process 0 (not running): login user 0: %s; then %s" % (SENT, MARKS[0])]
       + ["%d process 0 (%s): get-status-data object 13 (control data, level 1, category general, data type none): %s; then %s" % (
           n, MARKS[n - 2], SENT, MARKS[1]) for n in (2, 3)]
@@ -1004,10 +1005,10 @@ for level, held in ((0, 1), (0, 3), (1, 1), (1, 3), (2, 2), (2, 3)):
 # in words
 TOLD = words.tell(YARD, b"".join(map(bytes, [*READ_BOTH, (SET_LEVEL, 0, 131, 2), (SET_LEVEL, 0, 255, 16), (SET_LEVEL, 0, 3, 2)])))
 OWNER = "user 0, general, untrusted, clearance 3 ab, "
-MARKS = (OWNER + "current 0, marks 0 to 15 all, automatic, moved 0 times of at most 6",
-         OWNER + "current 1 a, marks 1 a to 15 all, automatic, moved 1 times of at most 6",
-         OWNER + "current 1 ab, marks 1 ab to 15 all, automatic, moved 2 times of at most 6",
-         OWNER + "current 2 ab, marks 1 ab to 15 all, not automatic, moved 2 times of at most 6")
+MARKS = (OWNER + "current 0, marks 0 to 15 all, automatic, moves 0 of at most 6",
+         OWNER + "current 1 a, marks 1 a to 15 all, automatic, moves 1 of at most 6",
+         OWNER + "current 1 ab, marks 1 ab to 15 all, automatic, moves 2 of at most 6",
+         OWNER + "current 2 ab, marks 1 ab to 15 all, not automatic, moves 2 of at most 6")
 REFUSED = "MAC not granted, FC not cared, SIM not cared, FF not cared, combined not granted: 12 not granted (label not under the clearance)"
 PLAIN = "category general, data type none"
 check(TOLD, ["1 process 0 (not running): login user 0: %s; then %s" % (SENT, MARKS[0]),
@@ -1132,13 +1133,33 @@ for call, text in (((DELETE, 0, 2, 0), " (read-only of object 0)"), ((EXECUTE, 0
                    ((READ, 0, 1, 0), " (search-only of object 0)"), ((15, 0, 1, 0), "")):
     check(words.why_words(below, call), text, "whose flag it is")
 check(words.why_words(after(FF_ON + thing(0, 0, 0, 0, ND), IN), (DELETE, 0, 0, 0)), " (no-delete of object 0)", "no-delete is not inherited")
+# short lines: of the story, and what the story has not
+SHORT = words.tell(story.SETUP, b"".join(map(bytes, story.CALLS)), words.short_sentence)
+check([SHORT[n - 1] for n in (1, 3, 4, 5, 11, 13, 24, 34, 57)],
+      ["1 process 0 login user 0: 0 accepted; then current 0, marks 0 to 15 all, clearance 3",
+       "3 process 0 read-open object 1 (level 0): 0 accepted",
+       "4 process 0 read-open object 2 (level 3): 0 accepted; then current 3, marks 3 to 15 all, clearance 3",
+       "5 process 0 write-open object 1 (level 0): 12 not granted (label not over the read mark); then current 3, marks 3 to 15 all, clearance 3",
+       "11 process 0 clone to process 2: 0 accepted; process 2 then current 3, marks 3 to 15 all, clearance 3",
+       "13 process 0 terminate: 0 accepted; then not running",
+       "24 process 4 create file in object 5 (level 0): 0 accepted, object 8; then current 0, marks 0 to 0, clearance 3",
+       "34 process 2 send-signal to process 5: 0 accepted; process 5 then current 3, marks 3 to 15 all, clearance 3",
+       "57 process 9 set-level level 1 a: 0 accepted; then current 1 a, marks 0 to 15 all, clearance 3 ab"], "short lines")
+check(words.tell(story.SETUP, bytes([22, 0, 0, 0, 13, 0, 99, 0, 21, 0, 0, 0, 13, 0, 99, 0, 2, 0, 0, 0, 16, 0, 0, 0]), words.short_sentence),
+      ["1 process 0 no request number 22: 1 no such request",
+       "2 process 0 read-open object 99: 3 process does not run",
+       "3 process 0 login user 0: 0 accepted; then current 0, marks 0 to 15 all, clearance 3",
+       "4 process 0 read-open object 99: 6 object is not live",
+       "5 process 0 clone to process 0: 4 process number is not free",
+       "6 process 0 send-signal to process 0: 0 accepted"], "short lines of what is refused")
+
 # all modules at once, with 12 and with 13, and in words
 ALL_ON = switches(1, 1, 1, 1) + user(1) + thing(0, 0, 1, 1, RO) + thing(0, 255, 255, 1, ND) + thing(0, 3, 255, 1, ADD)
 BETWEEN = [IN, (SET_LEVEL, 0, 0, 1), (SEND_SIGNAL, 0, 0, 0)]
 check(told(ALL_ON, BETWEEN, (DELETE, 0, 0, 0), (DELETE, 0, 1, 0), (DELETE, 0, 2, 0)),
       [["fixed", "readmark", "category", "datatype", RO], ["unset", "nocategory", "datatype", ND], ["fixed", "clearance", "nocategory", "datatype"]],
       "all modules")
-WITHIN = "user 0, general, untrusted, clearance 1, current 1, marks 1 to 15 all, not automatic, moved 0 times of at most 2"
+WITHIN = "user 0, general, untrusted, clearance 1, current 1, marks 1 to 15 all, not automatic, moves 0 of at most 2"
 check(words.tell(ALL_ON, b"".join(map(bytes, [*BETWEEN, (DELETE, 0, 0, 0), (DELETE, 0, 1, 0)])))[3:],
       ["4 process 0 (%s): delete object 0 (file, level 0, category security, data type security information, read-only): MAC not granted, "
        "FC not granted, SIM not granted, FF not granted, combined not granted: 12 not granted (automatic off) (label not over the read mark) "
@@ -1150,9 +1171,9 @@ check(words.tell(ALL_ON, b"".join(map(bytes, [*BETWEEN, (DELETE, 0, 0, 0), (DELE
 OFFICERS = switches(0, 0, 0) + user(2, 1, 1) + user(2, 2) + thing(1, 0, 2)
 check(words.tell(OFFICERS, bytes([21, 0, 0, 0, 21, 1, 0, 1, 4, 0, 0, 0, 4, 0, 7, 2, 4, 0, 7, 0]))[1:],
       ["2 process 1 (not running): login user 1: %s0 accepted; then user 1, system administrator, untrusted, clearance 2, current 0, marks 0 to 15 all, "
-       "automatic, moved 0 times of at most 3" % ASIDE]
-      + ["%d process 0 (user 0, security officer, trusted, clearance 2, current 0, marks 0 to 15 all, automatic, moved 0 times of at most 3): create %s: "
-         "%s%s; then user 0, security officer, trusted, clearance 2, current 0, marks 0 to 15 all, automatic, moved 0 times of at most 3" % (
+       "automatic, moves 0 of at most 3" % ASIDE]
+      + ["%d process 0 (user 0, security officer, trusted, clearance 2, current 0, marks 0 to 15 all, automatic, moves 0 of at most 3): create %s: "
+         "%s%s; then user 0, security officer, trusted, clearance 2, current 0, marks 0 to 15 all, automatic, moves 0 of at most 3" % (
              n, what, ASIDE, number) for n, what, number in (
                  (3, "file in object 0 (directory, level 0, category system, data type none)", "0 accepted, object 1"),
                  (4, "channel", "0 accepted, object 2"), (5, "file in object 7 (not live)", "6 object is not live"))], "roles, and what is made, in words")

@@ -7,13 +7,13 @@
  * its current label, read mark and write mark, each where the first, second or third bit of e is set; of request 250 the set e for object t, where it
  * is live and its level is set; of request 249 the set t for the clearance of user p. Standard output: of each set-up its number and the record's
  * index in two bytes; of each call of an accepted one why it is refused, in ten bytes, and in words behind the length of two bytes, both before the
- * call and after it; the outcome's seven bytes, the sixteen counters, for each user how often a process of it moves
- * at most, the same for number e in four bytes, for each process its moves and its three labels, the calling process's record, the target's record as
- * a process, its record as an object, its effective flags, and for each flag the object that it comes from; then the set-up written out after the
- * calls, behind its length in two bytes; then for each length of a buffer number and length in two bytes, and
- * the buffer, whose bytes were 165, with eight bytes behind it; then for each pair whether the first holds the matter of the second after the calls.
- * Each call is made by value and where the facility is, why it is refused is asked both ways, and each set-up read and written out; a difference between
- * the two ends the program with status 1, a set-up written out that is not read back as it is with status 3, a text that is not cut off as it has to be, or
+ * call and after it; the short line and the full one, each behind its length in two bytes; the outcome's seven bytes, the sixteen counters, for each user
+ * how often a process of it moves at most, the same for number e in four bytes, for each process its moves and its three labels, the calling process's
+ * record, the target's record as a process, its record as an object, its effective flags, and for each flag the object that it comes from; then the set-up
+ * written out after the calls, behind its length in two bytes; then for each length of a buffer number and length in two bytes, and the buffer, whose bytes
+ * were 165, with eight bytes behind it; then for each pair whether the first holds the matter of the second after the calls. Each call is made by value and
+ * where the facility is, why it is refused and its lines are asked both ways, and each set-up read and written out; a difference between the two ends the
+ * program with status 1, a set-up written out that is not read back as it is with status 3, a text that is not cut off as it has to be, or
  * that touches a byte behind it, with status 4. Each call is first made at another seat, on a copy; where it does not get 1 or 2 there, or changes
  * anything, the program ends with status 5. With an argument it prints the words of each byte as a role, a category and a data type instead, a line
  * for each byte. */
@@ -177,16 +177,32 @@ static void at_other_seat(const hv_facility *f, const uint8_t *c)
     if (o.number != number || q.number != number || e.outcome.number != number || !same(&g, f) || !same(&e.facility, f)) exit(5);
 }
 
-static void one_call(hv_facility *f, const uint8_t *c)
+/* Both lines in words, each behind its length in two bytes; by value and where the facility is, which becomes the one after the call. */
+static void put_lines(const hv_facility *f, const hv_facility *after, uint64_t index, const uint8_t *c)
+{
+    static uint8_t out[2][HV_WORDS_ROOM];
+    for (int full = 0; full < 2; full++) {
+        hv_facility g = *f;
+        hv_printed p = full ? hv_put_words(*f, index, call_of(c), out[0]) : hv_put_short_words(*f, index, call_of(c), out[0]);
+        size_t n = full ? hv_put_words_at(&g, index, call_of(c), out[1]) : hv_put_short_words_at(&g, index, call_of(c), out[1]);
+        if (n != p.length || memcmp(out[0], out[1], n) != 0 || !same(&g, after) || !same(&p.facility, after)) exit(1);
+        put((uint8_t[2]){n & 255, n >> 8 & 255}, 2);
+        put(out[0], n);
+    }
+}
+
+static void one_call(hv_facility *f, uint64_t index, const uint8_t *c)
 {
     put_in(f, c);
     at_other_seat(f, c);
     put_why(f, c);
+    hv_facility before = *f;
     hv_outcome q = hv_query_at(f, call_of(c));
     hv_enforced e = hv_enforce(*f, call_of(c));
     hv_outcome o = hv_enforce_at(f, call_of(c));
     if (memcmp(&o, &e.outcome, sizeof o) || memcmp(&o, &q, sizeof o) || !same(f, &e.facility)) exit(1);
     put_why(f, c);
+    put_lines(&before, f, index, c);
     uint32_t refusals[HV_USERS];
     for (uint8_t u = 0; u < HV_USERS; u++) refusals[u] = hv_refusals(*f, u);
     put((uint8_t[7]){o.number, o.mac, o.fc, o.sim, o.combined, o.object, o.ff}, 7);
@@ -274,7 +290,7 @@ int main(int count, char **arguments)
         hv_reading r = read_setup(setup, length);
         put((uint8_t[3]){r.number, r.index & 255, r.index >> 8}, 3);
         for (int u = 0; u < HV_USERS; u++) r.facility.refusals[u] = (uint32_t)number(counters + 4 * u, 4);
-        for (size_t k = 0; k < calls && r.number == HV_ACCEPTED; k++) one_call(&r.facility, list + 4 * k);
+        for (size_t k = 0; k < calls && r.number == HV_ACCEPTED; k++) one_call(&r.facility, k + 1, list + 4 * k);
         if (r.number == HV_ACCEPTED) put_setup(r.facility);
         need(b, 2);
         for (size_t rooms = number(b, 2); rooms > 0; rooms--) {

@@ -3,7 +3,8 @@
 Set-ups and lists of calls from the seed, until CALLS calls were made, through model/library.c: those of fuzz.py, as many in which many users and
 objects meet calls that the modules judge, and as many in which labels move; most set-ups have categories. Each call is made by value and where the
 facility is, and before that on a copy at another seat, where it must be refused and change nothing. Before each call and after it what is told of why
-it is refused is compared, as bytes and in words. After each call its outcome, the sixteen counters of refusals, for each user how often its processes
+it is refused is compared, as bytes and in words, and of each call both lines in words. After each call its outcome, the sixteen counters of
+refusals, for each user how often its processes
 move at most, for every process the number of moves and all labels, level and set, the calling process, the target as a process and the target as an
 object are compared, the object with its effective flags and where each comes from; after the last call the set-up written out, which must be read
 back, also into buffers that are too short or longer: of the first lists of each kind into those of every length up to 8 bytes beyond the need. Half
@@ -30,7 +31,7 @@ import reasons
 import vectors
 from model import Label
 from records import object_record, switches_record, user_record
-from words import category_words, data_type_words, role_words, why_words
+from words import Told, category_words, data_type_words, role_words, why_words
 
 ROOT = os.path.abspath(os.path.join(os.path.dirname(os.path.abspath(__file__)), ".."))
 PROGRAM = os.path.join(ROOT, "target", "c", "library")
@@ -297,6 +298,12 @@ def why_bytes(facility, call):
     return bytes(failed) + len(text).to_bytes(2, "little") + text
 
 
+def line_bytes(told, index, outcome):
+    """Both lines in words, behind their lengths."""
+    lines = [line.encode("ascii") + b"\n" for line in (told.short(index, outcome), told.full(index, outcome))]
+    return b"".join(len(line).to_bytes(2, "little") + line for line in lines)
+
+
 def call_bytes(facility, call, outcome):
     """What the library gives of a call after it."""
     most = bytes(model.most_moves(facility, user) for user in range(model.MAX_USERS)) + words([model.most_moves(facility, call[3])])
@@ -345,10 +352,10 @@ def follow(setup, facility, calls, out, seen):
     for i in range(0, len(calls) - 3, 4):
         call = tuple(calls[i:i + 4])
         put_in(facility, call)
-        before, why = Seen(seen, facility, call), why_bytes(facility, call)
+        before, why, told = Seen(seen, facility, call), why_bytes(facility, call), Told(facility, call)
         outcome = held.enforce(call) if fresh else model.enforce(facility, call)
         before.after(outcome)
-        out.append(why + why_bytes(facility, call) + call_bytes(facility, call, outcome))
+        out.append(why + why_bytes(facility, call) + line_bytes(told, i // 4 + 1, outcome) + call_bytes(facility, call, outcome))
         account.note(call, outcome.number == 0)
         if call[0] != model.SEND_SIGNAL:
             without.note(call, outcome.number == 0)

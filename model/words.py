@@ -1,4 +1,4 @@
-"""A run in words: python3 -B model/words.py SETUP_FILE < CALLS prints what the program `run_words` prints."""
+"""A run in words: python3 -B model/words.py [--full] SETUP_FILE < CALLS prints a short line for each call; with --full what the program `run_words` prints."""
 
 import sys
 
@@ -40,7 +40,7 @@ def process_words(facility, p):
     if process is None:
         return "not running"
     owner = facility.users[process.owner]
-    return "user %d, %s, %s, clearance %s, current %s, marks %s to %s, %s, moved %d times of at most %d" % (
+    return "user %d, %s, %s, clearance %s, current %s, marks %s to %s, %s, moves %d of at most %d" % (
         process.owner, role_words(owner.role), "trusted" if owner.trusted else "untrusted",
         *map(label_words, (owner.clearance, process.current, process.read_mark, process.write_mark)),
         "automatic" if process.automatic else "not automatic", process.moves, model.most_moves(facility, process.owner))
@@ -102,34 +102,97 @@ def target_words(facility, call):
     return object_words(facility, t)
 
 
+def short_object(facility, t):
+    thing = facility.objects[t] if t < len(facility.objects) else None
+    if thing is None or not thing.live:
+        return " object %d" % t
+    return " object %d (level %s)" % (t, "unset" if thing.label.level == model.UNSET else label_words(thing.label))
+
+
+def short_target(facility, call):
+    """What was asked of which target; where the full line tells all of a process or an object, its number, and a live object's label."""
+    request, _, t, e = call
+    if request in (model.CLONE, model.SEND_SIGNAL):
+        return " to process %d" % t
+    if request == model.CREATE and model.needs_object(request, e):
+        return " " + word(KINDS, e, "no kind") + " in" + short_object(facility, t)
+    if request <= model.LOGIN and model.needs_object(request, e):
+        return short_object(facility, t)
+    return target_words(facility, call)
+
+
+def compared(facility, p):
+    """What a process is told to be another by."""
+    process = facility.processes[p] if p < model.PROCESSES else None
+    return process and (process.owner, process.current, process.read_mark, process.write_mark, process.automatic)
+
+
+def short_process(facility, p):
+    process = facility.processes[p] if p < model.PROCESSES else None
+    if process is None:
+        return "not running"
+    return "current %s, marks %s to %s, clearance %s" % tuple(
+        map(label_words, (process.current, process.read_mark, process.write_mark, facility.users[process.owner].clearance)))
+
+
+class Told:
+    """What the lines of a call need of the facility before it; the facility after it is the same one."""
+
+    def __init__(self, facility, call):
+        self.facility, self.call = facility, call
+        request, p, t, _ = call
+        self.request, self.why = word(REQUESTS, request, "no request"), why_words(facility, call)
+        self.begin, self.target, self.short_target = process_words(facility, p), target_words(facility, call), short_target(facility, call)
+        self.owner = facility.processes[p].owner if p < model.PROCESSES and facility.processes[p] else None
+        self.compared = [compared(facility, n) for n in (p, t)]
+
+    def said(self, outcome):
+        made = ", object %d" % outcome.object_number if outcome.object_number != model.NO_OBJECT else ""
+        return ": %d %s%s%s" % (outcome.number, NUMBERS[outcome.number], self.why, made)
+
+    def full(self, index, outcome):
+        facility, (request, p, t, _) = self.facility, self.call
+        answers = ": MAC %s, FC %s, SIM %s, FF %s, combined %s" % tuple(
+            ANSWERS[answer] for answer in (outcome.mac, outcome.fc, outcome.sim, outcome.ff, outcome.combined))
+        line = "%d process %d (%s): %s%s%s%s; then %s" % (index, p, self.begin, self.request, self.target, answers, self.said(outcome),
+                                                         process_words(facility, p))
+        if request in (model.SEND_SIGNAL, model.CLONE):
+            line += "; process %d then %s" % (t, process_words(facility, t))
+        if outcome.number in (12, 13):
+            line += "; refusals of user %d: %d" % (self.owner, facility.refusals[self.owner])
+        return line
+
+    def short(self, index, outcome):
+        facility, (request, p, t, _) = self.facility, self.call
+        line = "%d process %d %s%s%s" % (index, p, self.request, self.short_target, self.said(outcome))
+        if outcome.number in (12, 13) or compared(facility, p) != self.compared[0]:
+            line += "; then " + short_process(facility, p)
+        if outcome.number == 0 and request in (model.CLONE, model.SEND_SIGNAL) and compared(facility, t) != self.compared[1]:
+            line += "; process %d then %s" % (t, short_process(facility, t))
+        return line
+
+
 def sentence(index, facility, call):
-    request, p, t, _ = call
-    begin = "%d process %d (%s): %s%s" % (index, p, process_words(facility, p), word(REQUESTS, request, "no request"), target_words(facility, call))
-    why = why_words(facility, call)
-    caller = facility.processes[p] if p < model.PROCESSES else None
-    outcome = model.enforce(facility, call)
-    made = ", object %d" % outcome.object_number if outcome.object_number != model.NO_OBJECT else ""
-    later = "; process %d then %s" % (t, process_words(facility, t)) if request in (model.SEND_SIGNAL, model.CLONE) else ""
-    counted = ""
-    if outcome.number in (12, 13):
-        counted = "; refusals of user %d: %d" % (caller.owner, facility.refusals[caller.owner])
-    return "%s: MAC %s, FC %s, SIM %s, FF %s, combined %s: %d %s%s%s; then %s%s%s" % (
-        begin, *(ANSWERS[answer] for answer in (outcome.mac, outcome.fc, outcome.sim, outcome.ff, outcome.combined)), outcome.number,
-        NUMBERS[outcome.number], why, made, process_words(facility, p), later, counted)
+    return Told(facility, call).full(index, model.enforce(facility, call))
 
 
-def tell(setup, calls):
+def short_sentence(index, facility, call):
+    return Told(facility, call).short(index, model.enforce(facility, call))
+
+
+def tell(setup, calls, line=sentence):
     number, index, facility = model.read_setup(setup)
     if number != 0:
         place = "" if number == 14 else " at record %d" % index      # of a length that is not allowed no record is at fault
         return ["set-up refused%s: %d %s" % (place, number, NUMBERS[number])]
-    lines = [sentence(i // 4 + 1, facility, tuple(calls[i:i + 4])) for i in range(0, len(calls) - 3, 4)]
+    lines = [line(i // 4 + 1, facility, tuple(calls[i:i + 4])) for i in range(0, len(calls) - 3, 4)]
     return lines + (["short"] if len(calls) % 4 else [])
 
 
 def main():
-    name = sys.argv[1] if len(sys.argv) > 1 else "setup.bin"
-    lines = tell(run.read_file(name), sys.stdin.buffer.read())
+    arguments = [word for word in sys.argv[1:] if word != "--full"]
+    name = arguments[0] if arguments else "setup.bin"
+    lines = tell(run.read_file(name), sys.stdin.buffer.read(), sentence if "--full" in sys.argv else short_sentence)
     sys.stdout.write("".join(line + "\n" for line in lines))
 
 

@@ -536,6 +536,29 @@ static void word_is(words_of *words, uint8_t n, const char *expected)
     expect(words(n, cut, 3) == part && memcmp(cut, expected, part) == 0 && cut[3] == '?', expected, n);
 }
 
+static void label_is_told(hv_label label, const char *expected)
+{
+    uint8_t out[HV_LABEL_MOST], cut[2] = "??";
+    size_t length = hv_label_words(label, out, sizeof out);
+    expect(length == strlen(expected) && memcmp(out, expected, length) == 0, expected, label.set);
+    expect(hv_label_words(label, cut, 1) == 1 && cut[0] == (uint8_t)expected[0] && cut[1] == '?' && hv_label_words(label, NULL, 0) == 0, expected, label.set);
+}
+
+/* Classes, and which requests need an object. */
+static void classes(void)
+{
+    expect(hv_class(HV_READ_OPEN, HV_FILE) == HV_CLASS_R && hv_class(HV_WRITE_OPEN, HV_FILE) == HV_CLASS_W
+           && hv_class(HV_READ_WRITE_OPEN, HV_FILE) == HV_CLASS_B && hv_class(HV_CLOSE, HV_FILE) == HV_CLASS_N
+           && hv_class(HV_EXECUTE, HV_DIRECTORY) == HV_CLASS_ABSENT, "classes", 0);
+    for (int n = 0; n < 256; n++) {
+        uint8_t k = (uint8_t)n, other = below(256);
+        expect(k <= HV_LOGIN || (hv_class(k, below(4)) == HV_CLASS_ABSENT && !hv_needs_object(k, other)), "class of no request", n);
+        expect(k <= HV_CONTROL_DATA || hv_class(below(22), k) == HV_CLASS_ABSENT, "class of no kind", n);
+        expect(hv_needs_object(HV_READ, k) && !hv_needs_object(HV_LOGIN, k), "needs an object", n);
+        expect(hv_needs_object(HV_CREATE, k) == (k != HV_CHANNEL && k != HV_CONTROL_DATA), "a create needs a directory", n);
+    }
+}
+
 static void words(void)
 {
     word_is(hv_request_words, HV_SET_LEVEL, "set-level");
@@ -552,6 +575,11 @@ static void words(void)
     word_is(hv_data_type_words, 2, "no data type");
     word_is(hv_number_words, HV_SETUP_PARENT, "parent is no earlier directory");
     word_is(hv_number_words, 9, "object is not open in that mode");
+    label_is_told((hv_label){3, 3}, "3 ab");
+    label_is_told((hv_label){15, HV_ALL_CATEGORIES}, "15 all");
+    label_is_told((hv_label){HV_UNSET, 0}, "unset");
+    label_is_told((hv_label){HV_UNSET, HV_ALL_CATEGORIES - 1}, "unset bcdefgh");
+    label_is_told((hv_label){0, 0}, "0");
     expect(hv_version() == HV_VERSION && hv_facility_size() == HV_FACILITY_SIZE && sizeof(hv_facility) == HV_FACILITY_SIZE, "version", HV_VERSION);
 }
 
@@ -613,6 +641,24 @@ static void blocks(hv_facility f)
     }
 }
 
+/* Both lines in words by value and where the facility is. */
+static void lines_in_words(hv_facility f)
+{
+    static uint8_t out[2][HV_WORDS_ROOM];
+    for (uint64_t k = 0; k < 300; k++) {
+        uint8_t c[4] = {below(23), below(34), below(130), below(18)};
+        hv_facility g = f, h = f;
+        hv_printed p = hv_put_words(f, k, call_of(c), out[0]);
+        size_t n = hv_put_words_at(&g, k, call_of(c), out[1]);
+        expect(n == p.length && memcmp(out[0], out[1], n) == 0 && same_facility(&g, &p.facility), "words both ways, request", c[0]);
+        p = hv_put_short_words(f, k, call_of(c), out[0]);
+        n = hv_put_short_words_at(&h, k, call_of(c), out[1]);
+        expect(n == p.length && memcmp(out[0], out[1], n) == 0 && same_facility(&h, &p.facility), "short words both ways, request", c[0]);
+        expect(memcmp(&g, &h, sizeof g) == 0 && same_paddings(&g, &f), "facility after words, request", c[0]);
+        f = g;
+    }
+}
+
 /* Every function that takes a call, at a seat that has no process: one number, and nothing else of the call counts. */
 static void at_no_seat(const hv_facility *f, hv_call c, hv_account a)
 {
@@ -624,7 +670,9 @@ static void at_no_seat(const hv_facility *f, hv_call c, hv_account a)
     hv_enforced e = hv_enforce(*f, c);
     hv_failed w = hv_why(*f, c), w_at = hv_why_at(f, c);
     hv_account b = hv_account_step(a, c, false);
-    hv_printed p = hv_put_words(*f, 1, c, out);
+    hv_printed p = hv_put_words(*f, 1, c, out), s = hv_put_short_words(*f, 1, c, out);
+    size_t told = hv_put_words_at(&g, 1, c, out), short_told = hv_put_short_words_at(&g, 1, c, out);
+    expect(told == p.length && short_told == s.length && same_facility(&s.facility, f), "words at a seat", c.seat);
     expect(q.number == number && o.number == number && v.number == number && e.outcome.number == number, "number at a seat", c.seat);
     expect(memcmp(&g, f, sizeof g) == 0 && same_facility(&e.facility, f) && same_facility(&p.facility, f), "facility at a seat", c.seat);
     expect(memcmp(&w, &none, sizeof w) == 0 && memcmp(&w_at, &none, sizeof w) == 0, "reasons at a seat", c.seat);
@@ -705,6 +753,7 @@ int main(void)
         both_ways(likely());
         call_fields(likely());
         blocks(likely());
+        lines_in_words(likely());
         flags(likely());
     }
     shield();
@@ -717,6 +766,7 @@ int main(void)
     read_both_ways(projects, sizeof projects - 1);
     account();
     words();
+    classes();
     for (uintptr_t nowhere = 0; nowhere < 2; nowhere++) {    /* NULL, and an address that has no byte */
         read_no_bytes((const uint8_t *)nowhere);
         write_no_bytes((uint8_t *)nowhere);

@@ -25,42 +25,31 @@ static const uint8_t setup[] = {
 /* The sheet is in the released drawings, which are read-only, and inherits that. */
 enum { YARD_FOLDER, NOTES, HULL_LINES, RELEASED_DRAWINGS, SHEET, FERRY_FRAMES, TUG_FRAMES, BADGE_LIST };
 
-/* A label in words: its level, and a letter for each of its categories, or "all". */
-static const char *label_words(hv_label label, char out[16])
-{
-    int n = sprintf(out, label.set == HV_ALL_CATEGORIES ? "%d all" : label.set != 0 ? "%d " : "%d", label.level);
-    for (int bit = 0; bit < 8 && label.set != HV_ALL_CATEGORIES; bit++)
-        if (label.set >> bit & 1) out[n++] = (char)('a' + bit);
-    out[n] = 0;
-    return out;
-}
+/* A label in words, as a string. */
+typedef char label_text[HV_LABEL_MOST + 1];
 
-/* Whether the target of a call is an object. */
-static bool has_object(hv_call c)
+static const char *told(hv_label label, label_text out)
 {
-    switch (c.request) {
-    case HV_CLONE: case HV_SEND_SIGNAL: case HV_SET_LEVEL: case HV_TERMINATE: case HV_LOGIN: return false;
-    case HV_CREATE: return c.extra == HV_FILE || c.extra == HV_DIRECTORY;
-    default: return true;
-    }
+    out[hv_label_words(label, (uint8_t *)out, HV_LABEL_MOST)] = 0;
+    return out;
 }
 
 /* What a refusal was about: the conditions that failed, the object, and the clearance of the user who owns the process. The refused call has changed none
  * of them. Where they are of the process alone, its marks or its fixed level, a fresh window of the same user may do what this one may not. */
 static void say_why(const hv_facility *f, hv_call c)
 {
-    char a[16];
+    label_text a;
     uint8_t why[HV_WHY_MOST], kind[HV_WORD_MOST];
     size_t n = hv_why_words_at(f, c, why, sizeof why);
     hv_failed failed = hv_why_at(f, c);
     uint8_t owner = hv_process_at(f, c.process).owner;
     printf("%.*s\n", (int)n, (const char *)why);
-    if (has_object(c)) {
+    if (hv_needs_object(c.request, c.extra)) {
         hv_object_record t = hv_object_at(f, c.target);
         size_t length = hv_kind_words(t.kind, kind, sizeof kind);
-        printf("    object %d: %.*s, level %s\n", c.target, (int)length, (const char *)kind, t.label.level == HV_UNSET ? "unset" : label_words(t.label, a));
+        printf("    object %d: %.*s, level %s\n", c.target, (int)length, (const char *)kind, told(t.label, a));
     }
-    printf("    user %d: clearance %s\n", owner, label_words(hv_user_at(f, owner).clearance, a));
+    printf("    user %d: clearance %s\n", owner, told(hv_user_at(f, owner).clearance, a));
     if (!(failed.unset || failed.clearance || failed.receiver || failed.nocategory || failed.category || failed.datatype || failed.flag != 0))
         printf("    a fresh window of this user may do it\n");
 }
@@ -68,10 +57,10 @@ static void say_why(const hv_facility *f, hv_call c)
 /* Where a process is. */
 static void say_process(const hv_facility *f, uint8_t process)
 {
-    char a[16], b[16], c[16];
+    label_text a, b, c;
     hv_process_record p = hv_process_at(f, process);
-    printf("; process %d: current %s, marks %s to %s, moved %d times of at most %lu\n", process, label_words(p.current, a), label_words(p.readmark, b),
-           label_words(p.writemark, c), p.moves, (unsigned long)hv_most_moves_at(f, p.owner));
+    printf("; process %d: current %s, marks %s to %s, moves %d of at most %lu\n", process, told(p.current, a), told(p.readmark, b),
+           told(p.writemark, c), p.moves, (unsigned long)hv_most_moves_at(f, p.owner));
 }
 
 /* A call, and what it came to. Only where it is accepted may the window do what it asked for. */
@@ -89,10 +78,10 @@ static void call(hv_facility *f, const char *what, hv_call c)
 /* The supervisor's table: refusals by user. */
 static void supervisor(const hv_facility *f)
 {
-    char a[16];
+    label_text a;
     printf("user  clearance  refusals\n");
     for (uint8_t u = 0; u < hv_summary_at(f).users; u++)
-        printf("%4d  %9s  %8lu\n", u, label_words(hv_user_at(f, u).clearance, a), (unsigned long)hv_refusals_at(f, u));
+        printf("%4d  %9s  %8lu\n", u, told(hv_user_at(f, u).clearance, a), (unsigned long)hv_refusals_at(f, u));
 }
 
 int main(void)

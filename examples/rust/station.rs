@@ -1,15 +1,13 @@
 //! A window of the station in Rust: calls like those of examples/c/station.c, over the same library.
 //! Build and run it with `examples/rust/build`.
 
-/// A facility: its bytes are the library's (include/hvozdalka.h names the fields).
-#[repr(C, align(4))]
-#[derive(Clone, Copy)]
-pub struct Facility([u8; 5580]);
+/// A facility: its bytes are the library's (include/hvozdalka.h names the fields), and the library says how many there are. Words, so that they are aligned.
+#[derive(Clone)]
+pub struct Facility(Vec<u32>);
 
 #[repr(C)]
 #[derive(Clone, Copy)]
-pub struct Reading {
-    pub facility: Facility,
+pub struct SetupNumbers {
     pub number: u8,
     pub index: u16,
 }
@@ -58,19 +56,25 @@ pub struct Process {
 }
 
 extern "C" {
-    fn hv_read_setup(bytes: *const u8, length: usize) -> Reading;
-    fn hv_query_at(f: *const Facility, call: Call) -> Outcome;
-    fn hv_enforce_at(f: *mut Facility, call: Call) -> Outcome;
-    fn hv_process(f: Facility, process: u8) -> Process;
-    fn hv_most_moves(f: Facility, user: u8) -> u32;
-    fn hv_refusals(f: Facility, user: u8) -> u32;
-    fn hv_why_words_at(f: *const Facility, call: Call, out: *mut u8, length: usize) -> usize;
+    fn hv_version() -> u32;
+    fn hv_facility_size() -> usize;
+    fn hv_read_setup_at(bytes: *const u8, length: usize, f: *mut u32) -> SetupNumbers;
+    fn hv_query_at(f: *const u32, call: Call) -> Outcome;
+    fn hv_enforce_at(f: *mut u32, call: Call) -> Outcome;
+    fn hv_process_at(f: *const u32, process: u8) -> Process;
+    fn hv_most_moves_at(f: *const u32, user: u8) -> u32;
+    fn hv_refusals_at(f: *const u32, user: u8) -> u32;
+    fn hv_why_words_at(f: *const u32, call: Call, out: *mut u8, length: usize) -> usize;
+    fn hv_label_words(label: Label, out: *mut u8, length: usize) -> usize;
 }
 
+/// The version of the declarations above.
+const VERSION: u32 = 9;
 const LOGIN: u8 = 21;
 const READ_OPEN: u8 = 13;
 const WRITE_OPEN: u8 = 20;
 const WHY_MOST: usize = 212;
+const LABEL_MOST: usize = 13;
 
 /// MAC and FF on; one untrusted user of clearance 2 with categories a and b; the open notes (level 0), the restricted hull lines (level 2), a
 /// directory of released drawings that is read-only (level 2), and a sheet in it, which inherits (add-inherited 128, parent 2 plus 1); the frames
@@ -86,57 +90,62 @@ const SETUP: [u8; 64] = [
     2, 0, 2, 0, 0, 0, 0, 2,
 ];
 
+/// What a function of the library puts into a buffer of so many bytes.
+fn text_of(most: usize, put: impl FnOnce(*mut u8, usize) -> usize) -> String {
+    let mut out = vec![0; most];
+    let length = put(out.as_mut_ptr(), out.len());
+    String::from_utf8_lossy(&out[..length]).into_owned()
+}
+
 impl std::fmt::Display for Label {
     /// The level, and a letter for each category, or "all".
     fn fmt(&self, out: &mut std::fmt::Formatter) -> std::fmt::Result {
-        let letters: String = (0..8).filter(|bit| self.set >> bit & 1 == 1).map(|bit| (b'a' + bit) as char).collect();
-        match self.set {
-            0 => write!(out, "{}", self.level),
-            255 => write!(out, "{} all", self.level),
-            _ => write!(out, "{} {letters}", self.level),
-        }
+        out.write_str(&text_of(LABEL_MOST, |at, length| unsafe { hv_label_words(*self, at, length) }))
     }
 }
 
 impl Facility {
     /// The fresh facility of a set-up, or the refusal number and the index of the record.
     pub fn read(setup: &[u8]) -> Result<Facility, (u8, u16)> {
-        // Safe: the pointer and the length are those of a slice, and the function is total.
-        let r = unsafe { hv_read_setup(setup.as_ptr(), setup.len()) };
-        if r.number == 0 { Ok(r.facility) } else { Err((r.number, r.index)) }
+        // Safe: the pointer and the length are those of a slice, the facility has the bytes that the library asks for, and the function is total.
+        let mut f = Facility(vec![0; unsafe { hv_facility_size() }.div_ceil(4)]);
+        let r = unsafe { hv_read_setup_at(setup.as_ptr(), setup.len(), f.0.as_mut_ptr()) };
+        if r.number == 0 { Ok(f) } else { Err((r.number, r.index)) }
     }
 
     pub fn query(&self, call: Call) -> Outcome {
-        unsafe { hv_query_at(self, call) }
+        unsafe { hv_query_at(self.0.as_ptr(), call) }
     }
 
     pub fn enforce(&mut self, call: Call) -> Outcome {
-        unsafe { hv_enforce_at(self, call) }
+        unsafe { hv_enforce_at(self.0.as_mut_ptr(), call) }
     }
 
     pub fn process(&self, process: u8) -> Process {
-        unsafe { hv_process(*self, process) }
+        unsafe { hv_process_at(self.0.as_ptr(), process) }
     }
 
     /// How often at most the label of a user's process moves by itself.
     pub fn most_moves(&self, user: u8) -> u32 {
-        unsafe { hv_most_moves(*self, user) }
+        unsafe { hv_most_moves_at(self.0.as_ptr(), user) }
     }
 
     /// The conditions that failed where this call is refused with 12 or 13, in words; else nothing.
     pub fn why(&self, call: Call) -> String {
-        let mut out = [0; WHY_MOST];
-        let length = unsafe { hv_why_words_at(self, call, out.as_mut_ptr(), out.len()) };
-        String::from_utf8_lossy(&out[..length]).into_owned()
+        text_of(WHY_MOST, |at, length| unsafe { hv_why_words_at(self.0.as_ptr(), call, at, length) })
     }
 
     /// The calls refused with 12 or 13 whose caller the user owned.
     pub fn refusals(&self, user: u8) -> u32 {
-        unsafe { hv_refusals(*self, user) }
+        unsafe { hv_refusals_at(self.0.as_ptr(), user) }
     }
 }
 
 fn main() {
+    if unsafe { hv_version() } != VERSION {
+        println!("the library is not that of these declarations");
+        std::process::exit(1);
+    }
     let mut f = match Facility::read(&SETUP) {
         Ok(f) => f,
         Err((number, index)) => {
@@ -160,7 +169,7 @@ fn main() {
         assert_eq!(foretold, outcome);
         let p = f.process(0);
         println!(
-            "{words}: number {}{why}; current {}, read mark {}, write mark {}; moved {} times of at most {}",
+            "{words}: number {}{why}; current {}, read mark {}, write mark {}; moves {} of at most {}",
             outcome.number,
             p.current,
             p.readmark,

@@ -76,4 +76,4 @@ openMarks f p t = addModes (opensOf f p t) 0
 
 -- the version of what C is given: one more with each change of the header that callers see
 abbrev pub version : ℕ
-version = 8
+version = 9

@@ -8,6 +8,7 @@ use state::Call;
 use state::Facility;
 
 pub mod account;
+pub mod classes;
 pub mod decisions;
 pub mod getters;
 pub mod getters_at;

@@ -6,10 +6,12 @@ ghost use Rattle.in_place.specs.Stores.{Becomes};
 ghost use Rattle.lines.specs.Blocks.{blockText, facilityAfter};
 ghost use Rattle.rules.specs.Calls.{after};
 ghost use Rattle.text.specs.Stored.{Stored};
-ghost use Rattle.names.specs.Words.{answerWord, categoryWord, dataTypeWord, flagWord, kindWord, numberWord, requestWord, roleWord};
+ghost use Rattle.names.specs.Words.{answerWord, categoryWord, dataTypeWord, flagWord, kindWord, labelWord, numberWord, requestWord, roleWord};
 ghost use Rattle.words.specs.Sentences.{sentence, setupSentence};
+ghost use Rattle.words.specs.Short.{shortSentence};
 use crate::SeatedCall;
 use crate::call_of;
+use labels::Label;
 use lines::Printed;
 use state::Facility;
 
@@ -37,7 +39,35 @@ pub extern "C" fn hv_put_block(f: Facility, first: u64, calls: &[u8], out: &mut 
     lines::put_block(f, first, calls, out)
 }
 
-// Enforces a call, and stores its line in words at the start of the buffer: the facility after it, and how many bytes the line has.
+// Enforces a call on a facility where it is, and stores its line in words, the full one or the short one, at the start of the buffer: how many bytes the
+// line has.
+#[no_mangle]
+pub extern "C" fn hv_put_words_at(
+    f: &mut [u8; in_place::SIZE],
+    index: u64,
+    c: SeatedCall,
+    out: &mut [u8; words::BUFFER],
+) -> usize
+    ensures { λ r. ⌜ Stored (now (out .entry)) 0 (sentence index (facilityAt (now (f .entry))) (callOf c)) (now (out .exit)) r ⌝ }
+    ensures { λ r. ⌜ Becomes (now (f .entry)) (now (f .exit)) (after (facilityAt (now (f .entry))) (callOf c)) ⌝ }
+{
+    words::tell_in(f, index, call_of(c), out, 0)
+}
+
+#[no_mangle]
+pub extern "C" fn hv_put_short_words_at(
+    f: &mut [u8; in_place::SIZE],
+    index: u64,
+    c: SeatedCall,
+    out: &mut [u8; words::BUFFER],
+) -> usize
+    ensures { λ r. ⌜ Stored (now (out .entry)) 0 (shortSentence index (facilityAt (now (f .entry))) (callOf c)) (now (out .exit)) r ⌝ }
+    ensures { λ r. ⌜ Becomes (now (f .entry)) (now (f .exit)) (after (facilityAt (now (f .entry))) (callOf c)) ⌝ }
+{
+    words::tell_short_in(f, index, call_of(c), out, 0)
+}
+
+// The same of a facility by value: the facility after the call, and how many bytes the line has.
 #[no_mangle]
 pub extern "C" fn hv_put_words(
     f: Facility,
@@ -50,6 +80,21 @@ pub extern "C" fn hv_put_words(
 {
     let mut length: usize = 0;
     let facility = words::tell(f, index, call_of(c), out, &mut length);
+    Printed { facility, length }
+}
+
+#[no_mangle]
+pub extern "C" fn hv_put_short_words(
+    f: Facility,
+    index: u64,
+    c: SeatedCall,
+    out: &mut [u8; words::BUFFER],
+) -> Printed
+    ensures { λ r. ⌜ Stored (now (out .entry)) 0 (shortSentence index f (callOf c)) (now (out .exit)) (r .length) ⌝ }
+    ensures { λ r. ⌜ r .facility ≡ after f (callOf c) ⌝ }
+{
+    let mut length: usize = 0;
+    let facility = words::tell_short(f, index, call_of(c), out, &mut length);
     Printed { facility, length }
 }
 
@@ -117,4 +162,12 @@ pub extern "C" fn hv_number_words(number: u8, out: &mut [u8]) -> usize
     ensures { λ r. ⌜ Stored (now (out .entry)) 0 (numberWord number) (now (out .exit)) r ⌝ }
 {
     names::put_number(out, 0, number)
+}
+
+// A label in words: its level, or that it is unset, and the letters of its categories.
+#[no_mangle]
+pub extern "C" fn hv_label_words(label: Label, out: &mut [u8]) -> usize
+    ensures { λ r. ⌜ Stored (now (out .entry)) 0 (labelWord label) (now (out .exit)) r ⌝ }
+{
+    names::put_label(out, 0, label)
 }

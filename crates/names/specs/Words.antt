@@ -5,8 +5,9 @@ use mathlib.Core.List.{List, [], _∷_, _++_}
 use mathlib.Core.Path.{_≡_, refl}
 use lib.Dec.{eqb}
 use Rattle.rules.specs.FileFlags.{has, readOnly, noExecute, noDelete, searchOnly, addInherited}
-use Rattle.labels.specs.Labels.{unset, allCategories}
-use Rattle.rules.specs.Lines.{decimal}
+use Rattle.labels.specs.declared.Label.{Label}
+use Rattle.labels.specs.Labels.{label, unset, allCategories}
+use Rattle.rules.specs.Lines.{decimal, decimalIn}
 use Rattle.rules.specs.Text.{ascii}
 
 -- the word of a number; `none` past the last
@@ -135,3 +136,11 @@ setWord s =
 example : setWord 0 ++ setWord 1 ++ setWord 130 ++ setWord 127 ++ setWord 254 ++ setWord 255 ≡ ascii " a bh abcdefg bcdefgh all"
 unfolding has letterWord setWord
 example = refl
+
+-- a label: its level and its set
+unfoldable pub labelWord : Label → List ℕ
+labelWord l = levelWord (l .level) ++ setWord (l .set)
+
+labels : labelWord (label 3 3) ++ labelWord (label unset 0) ++ labelWord (label 15 allCategories) ≡ ascii "3 abunset15 all"
+unfolding decimalIn has letterWord setWord levelWord labelWord
+labels = refl

@@ -6,9 +6,10 @@ ghost use mathlib.Core.Path.{_≡_};
 ghost use lib.ListN.{length};
 ghost use Rattle.names.specs.Tables.{sizeIn, wordAt};
 ghost use Rattle.names.specs.Reasons.{failedText, flagReason, macReasons, roleReasons, textIf};
-ghost use Rattle.names.specs.Words.{answerWord, automaticWord, categoryWord, dataTypeWord, flagWord, kindWord, letterWord, levelWord};
-ghost use Rattle.names.specs.Words.{numberWord, requestWord, roleWord, setWord, trustWord};
+ghost use Rattle.names.specs.Words.{answerWord, automaticWord, categoryWord, dataTypeWord, flagWord, kindWord, labelWord, letterWord};
+ghost use Rattle.names.specs.Words.{levelWord, numberWord, requestWord, roleWord, setWord, trustWord};
 ghost use Rattle.text.specs.Stored.{Stored};
+use labels::Label;
 use reasons::Failed;
 
 // How many bytes of a row are left without the blanks behind them.
@@ -235,6 +236,14 @@ pub fn put_set(out: &mut [u8], place: usize, s: u8) -> usize
     p = put_letter(out, p, 32, b"f", s);
     p = put_letter(out, p, 64, b"g", s);
     put_letter(out, p, 128, b"h", s)
+}
+
+// A label: its level and its set.
+pub fn put_label(out: &mut [u8], place: usize, l: Label) -> usize
+    ensures { λ r. ⌜ Stored (now (out .entry)) place (labelWord l) (now (out .exit)) r ⌝ }
+{
+    let p = put_level(out, place, l.level);
+    put_set(out, p, l.set)
 }
 
 // A text where something is so.

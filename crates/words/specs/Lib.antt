@@ -1,3 +1,4 @@
 -- A run in words.
 pub mod Patterns
 pub mod Sentences
+pub mod Short

@@ -37,7 +37,7 @@ use Rattle.words.specs.Patterns.{filled, filledFrom, said}
 abbrev pub processText : Process → User → List ℕ
 processText r u =
     cond (on (r .running))
-    (filled (ascii "user #, @, <, clearance #*, current #*, marks #* to #*, >, moved # times of at most ")
+    (filled (ascii "user #, @, <, clearance #*, current #*, marks #* to #*, >, moves # of at most ")
     (r .owner ∷ u .role ∷ u .trusted ∷ u .clearance .level ∷ u .clearance .set ∷ r .current .level ∷ r .current .set ∷ r .readmark .level
     ∷ r .readmark .set ∷ r .writemark .level ∷ r .writemark .set ∷ r .automatic ∷ r .moves ∷ [])
     ++ decimal (movesBound (u .clearance)))

@@ -2,13 +2,19 @@
 // (specs/Patterns.antt). What does not fit into the lent buffer is cut off.
 ghost use mathlib.Core.List.{[], _∷_};
 ghost use mathlib.Core.Path.{_≡_};
+ghost use Rattle.in_place.specs.Layout.{facilityAt};
+ghost use Rattle.in_place.specs.Stores.{Becomes};
 ghost use Rattle.io.specs.Counts.{Counts};
 ghost use Rattle.rules.specs.Calls.{after};
 ghost use Rattle.rules.specs.Requests.{actionOf};
 ghost use Rattle.text.specs.Stored.{Stored};
 ghost use Rattle.words.specs.Patterns.{filled, said, signs};
 ghost use Rattle.words.specs.Sentences.{answersText, beforeText, countText, createText, flagText, flagsText, laterText, madeText, objectText};
-ghost use Rattle.words.specs.Sentences.{outcomeText, processText, reasonIn, receiverText, sentence, sentenceText, setupSentence, targetText};
+ghost use Rattle.words.specs.Sentences.{outcomeText, processText, reasonIn, receiverText, sentence, sentenceText, setupSentence, targetText, told};
+ghost use Rattle.words.specs.Short.{shortSentence};
+
+mod short;
+
 use answers::Outcome;
 use reasons::Failed;
 use rules::Action;
@@ -39,6 +45,12 @@ struct Told {
     outcome: Outcome,
     later: View,
     count: u32,
+}
+
+// The same, with the facility after the call.
+struct Telling {
+    told: Told,
+    facility: Facility,
 }
 
 // A byte of a pattern: a sign is the number n, said in the sign's way.
@@ -125,7 +137,7 @@ fn put_process(out: &mut [u8; BUFFER], place: usize, r: Process, u: User) -> usi
         let p = put_filled(
             out,
             place,
-            b"user #, @, <, clearance #*, current #*, marks #* to #*, >, moved # times of at most ",
+            b"user #, @, <, clearance #*, current #*, marks #* to #*, >, moves # of at most ",
             &numbers,
         );
         return text::put_decimal(out, p, u.clearance.most_moves() as u64);
@@ -324,11 +336,19 @@ fn reason_in(f: Facility, n: u8, v: View, c: Call) -> Reason
     Reason { failed, source }
 }
 
-// Enforces a call, stores its line, and answers the facility after it. The place is moved behind the line.
-pub fn tell(f: Facility, index: u64, c: Call, out: &mut [u8; BUFFER], place: &mut usize) -> Facility
-    ensures { λ r. ⌜ r ≡ after f c ⌝ }
-    ensures { λ r. ⌜ Stored (now (out .entry)) (now (place .entry)) (sentence index f c) (now (out .exit)) (now (place .exit)) ⌝ }
-    ensures { λ r. ⌜ Counts (now (place .exit)) (now (out .exit)) ⌝ }
+// The same of a facility where it is.
+fn reason_at(s: &[u8; in_place::SIZE], n: u8, v: View, c: Call) -> Reason
+    ensures { λ r. ⌜ r ≡ reasonIn (facilityAt (now (s .entry))) n v c ⌝ }
+{
+    let failed = reasons::failed_by(n, v, c);
+    let source = in_place::source_of(s, c.target, failed.flag);
+    Reason { failed, source }
+}
+
+// Enforces a call: what is told of it, and the facility after it.
+fn told_of(f: Facility, index: u64, c: Call) -> Telling
+    ensures { λ r. ⌜ r .told ≡ told index f c ⌝ }
+    ensures { λ r. ⌜ r .facility ≡ after f c ⌝ }
 {
     let before = calls::view_of(f, c);
     let enforced = calls::enforce(f, c);
@@ -337,7 +357,7 @@ pub fn tell(f: Facility, index: u64, c: Call, out: &mut [u8; BUFFER], place: &mu
     let reason = reason_in(f, outcome.number(), before, c);
     let later = calls::view_of(facility, c);
     let count = labels::word_at(&facility.refusals, before.caller.owner as usize);
-    let t = Told {
+    let told = Told {
         index,
         call: c,
         before,
@@ -346,8 +366,83 @@ pub fn tell(f: Facility, index: u64, c: Call, out: &mut [u8; BUFFER], place: &mu
         later,
         count,
     };
-    *place = put_sentence(out, *place, t);
-    facility
+    Telling { told, facility }
+}
+
+// The same on a facility where it is. The flag's object is looked for before the call, which may delete it.
+fn told_in(s: &mut [u8; in_place::SIZE], index: u64, c: Call) -> Told
+    ensures { λ r. ⌜ r ≡ told index (facilityAt (now (s .entry))) c ⌝ }
+    ensures { λ r. ⌜ Becomes (now (s .entry)) (now (s .exit)) (after (facilityAt (now (s .entry))) c) ⌝ }
+{
+    let before = in_place::view_of(s, c);
+    let foretold = in_place::query_in(s, c);
+    let reason = reason_at(s, foretold.number(), before, c);
+    let outcome = in_place::enforce_in(s, c);
+    let later = in_place::view_of(s, c);
+    let count = in_place::counter_of(s, before.caller.owner);
+    Told {
+        index,
+        call: c,
+        before,
+        reason,
+        outcome,
+        later,
+        count,
+    }
+}
+
+// Enforces a call, stores its line, and answers the facility after it. The place is moved behind the line.
+pub fn tell(f: Facility, index: u64, c: Call, out: &mut [u8; BUFFER], place: &mut usize) -> Facility
+    ensures { λ r. ⌜ r ≡ after f c ⌝ }
+    ensures { λ r. ⌜ Stored (now (out .entry)) (now (place .entry)) (sentence index f c) (now (out .exit)) (now (place .exit)) ⌝ }
+    ensures { λ r. ⌜ Counts (now (place .exit)) (now (out .exit)) ⌝ }
+{
+    let t = told_of(f, index, c);
+    *place = put_sentence(out, *place, t.told);
+    t.facility
+}
+
+// The same with the short line.
+pub fn tell_short(
+    f: Facility,
+    index: u64,
+    c: Call,
+    out: &mut [u8; BUFFER],
+    place: &mut usize,
+) -> Facility
+    ensures { λ r. ⌜ r ≡ after f c ⌝ }
+    ensures { λ r. ⌜ Stored (now (out .entry)) (now (place .entry)) (shortSentence index f c) (now (out .exit)) (now (place .exit)) ⌝ }
+{
+    let t = told_of(f, index, c);
+    *place = short::put_short(out, *place, t.told);
+    t.facility
+}
+
+// Both lines of a call on a facility where it is: its bytes become those of the facility after it. Answers where the line ends.
+pub fn tell_in(
+    s: &mut [u8; in_place::SIZE],
+    index: u64,
+    c: Call,
+    out: &mut [u8; BUFFER],
+    place: usize,
+) -> usize
+    ensures { λ r. ⌜ Stored (now (out .entry)) place (sentence index (facilityAt (now (s .entry))) c) (now (out .exit)) r ⌝ }
+    ensures { λ r. ⌜ Becomes (now (s .entry)) (now (s .exit)) (after (facilityAt (now (s .entry))) c) ⌝ }
+{
+    put_sentence(out, place, told_in(s, index, c))
+}
+
+pub fn tell_short_in(
+    s: &mut [u8; in_place::SIZE],
+    index: u64,
+    c: Call,
+    out: &mut [u8; BUFFER],
+    place: usize,
+) -> usize
+    ensures { λ r. ⌜ Stored (now (out .entry)) place (shortSentence index (facilityAt (now (s .entry))) c) (now (out .exit)) r ⌝ }
+    ensures { λ r. ⌜ Becomes (now (s .entry)) (now (s .exit)) (after (facilityAt (now (s .entry))) c) ⌝ }
+{
+    short::put_short(out, place, told_in(s, index, c))
 }
 
 // A refused set-up.

@@ -18,7 +18,7 @@ running c =
     let r = a .r in
     rw (eq-eqb _ 1 (c7 .if1 .taken))
     (stores (a .out .now) (a .place)
-    (filled (ascii "user #, @, <, clearance #*, current #*, marks #* to #*, >, moved # times of at most ")
+    (filled (ascii "user #, @, <, clearance #*, current #*, marks #* to #*, >, moves # of at most ")
     (r .owner ∷ a .u .role ∷ a .u .trusted ∷ a .u .clearance .level ∷ a .u .clearance .set ∷ r .current .level ∷ r .current .set ∷ r .readmark .level
     ∷ r .readmark .set ∷ r .writemark .level ∷ r .writemark .set ∷ r .automatic ∷ r .moves ∷ []))
     (decimal _ ∷ [])
