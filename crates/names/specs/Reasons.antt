@@ -2,7 +2,7 @@
 use Prim.Native.Nat.{ℕ}
 use mathlib.Core.Path.{_≡_, refl}
 use mathlib.Core.Bool.{Bool, true, cond}
-use mathlib.Core.List.{List, [], _++_}
+use mathlib.Core.List.{List, [], _∷_, _++_}
 use lib.Dec.{eqb}
 use Rattle.rules.specs.FileFlags.{flagSource}
 use Rattle.rules.specs.Lines.{decimal, decimalIn}
@@ -12,11 +12,24 @@ use Rattle.state.specs.declared.Facility.{Facility}
 use Rattle.state.specs.State.{objectsIn}
 use Rattle.reasons.specs.declared.Failed.{Failed}
 use Rattle.reasons.specs.Reasons.{failedOf}
-use Rattle.names.specs.Words.{flagWord}
+use Rattle.names.specs.Words.{flagWord, wordIn}
 
 -- a text where something is so
 unfoldable pub textIf : Bool → List ℕ → List ℕ
 textIf b text = cond b text []
+
+-- the texts of the conditions, each in brackets, by their rows in a table
+abbrev pub noCondition : List ℕ
+noCondition = ascii " (no condition)"
+
+abbrev pub reasonWords : List (List ℕ)
+reasonWords =
+    ascii " (level unset)" ∷ ascii " (automatic off)" ∷ ascii " (label not under the clearance)" ∷ ascii " (label not under the write mark)"
+    ∷ ascii " (label not over the read mark)" ∷ ascii " (current labels differ)" ∷ ascii " (category unset)" ∷ ascii " (category not of the role)"
+    ∷ ascii " (security information, not security officer)" ∷ []
+
+abbrev pub reasonWord : ℕ → List ℕ
+reasonWord row = wordIn noCondition reasonWords row
 
 -- MAC's, each in brackets: of the label that was asked for, and of a signal's receiver
 unfoldable pub macReasons : Failed → List ℕ

@@ -103,6 +103,17 @@ flagWord m =
     (cond (eqb m noDelete) (ascii "no-delete")
     (cond (eqb m searchOnly) (ascii "search-only") (cond (eqb m addInherited) (ascii "add-inherited") (ascii "no flag")))))
 
+-- the same by the flag's row in a table of the words
+abbrev pub noFlag : List ℕ
+noFlag = ascii "no flag"
+
+abbrev pub flagWords : List (List ℕ)
+flagWords = ascii "read-only" ∷ ascii "no-execute" ∷ ascii "no-delete" ∷ ascii "search-only" ∷ ascii "add-inherited" ∷ []
+
+unfoldable pub flagRow : ℕ → ℕ
+flagRow m =
+    cond (eqb m readOnly) 0 (cond (eqb m noExecute) 1 (cond (eqb m noDelete) 2 (cond (eqb m searchOnly) 3 (cond (eqb m addInherited) 4 5))))
+
 -- what a number says: 0, the refusals of a call, 1 to 13, and those of a set-up, 14 to 19
 abbrev pub noNumber : List ℕ
 noNumber = ascii "no number"
@@ -126,15 +137,16 @@ levelWord n = cond (eqb n unset) (ascii "unset") (decimal n)
 unfoldable pub letterWord : ℕ → List ℕ → ℕ → List ℕ
 letterWord m letter s = cond (has m s) letter []
 
+unfoldable pub lettersOf : ℕ → List ℕ
+lettersOf s =
+    letterWord 1 (ascii "a") s ++ letterWord 2 (ascii "b") s ++ letterWord 4 (ascii "c") s ++ letterWord 8 (ascii "d") s
+    ++ letterWord 16 (ascii "e") s ++ letterWord 32 (ascii "f") s ++ letterWord 64 (ascii "g") s ++ letterWord 128 (ascii "h") s
+
 unfoldable pub setWord : ℕ → List ℕ
-setWord s =
-    cond (eqb s 0) []
-    (cond (eqb s allCategories) (ascii " all")
-    (ascii " " ++ letterWord 1 (ascii "a") s ++ letterWord 2 (ascii "b") s ++ letterWord 4 (ascii "c") s ++ letterWord 8 (ascii "d") s
-    ++ letterWord 16 (ascii "e") s ++ letterWord 32 (ascii "f") s ++ letterWord 64 (ascii "g") s ++ letterWord 128 (ascii "h") s))
+setWord s = cond (eqb s 0) [] (cond (eqb s allCategories) (ascii " all") (ascii " " ++ lettersOf s))
 
 example : setWord 0 ++ setWord 1 ++ setWord 130 ++ setWord 127 ++ setWord 254 ++ setWord 255 ≡ ascii " a bh abcdefg bcdefgh all"
-unfolding has letterWord setWord
+unfolding has letterWord lettersOf setWord
 example = refl
 
 -- a label: its level and its set
@@ -142,5 +154,5 @@ unfoldable pub labelWord : Label → List ℕ
 labelWord l = levelWord (l .level) ++ setWord (l .set)
 
 labels : labelWord (label 3 3) ++ labelWord (label unset 0) ++ labelWord (label 15 allCategories) ≡ ascii "3 abunset15 all"
-unfolding decimalIn has letterWord setWord levelWord labelWord
+unfolding decimalIn has letterWord lettersOf setWord levelWord labelWord
 labels = refl

@@ -2,12 +2,13 @@
 // types, and for the conditions that failed of a call. Words stand in tables, a row for each, with blanks behind them. What does not fit into the lent
 // buffer is cut off.
 ghost use Prim.Native.Nat.{_+_, _*_, _≤_, min};
+ghost use mathlib.Core.List.{[], _∷_};
 ghost use mathlib.Core.Path.{_≡_};
 ghost use lib.ListN.{length};
 ghost use Rattle.names.specs.Tables.{sizeIn, wordAt};
-ghost use Rattle.names.specs.Reasons.{failedText, flagReason, macReasons, roleReasons, textIf};
-ghost use Rattle.names.specs.Words.{answerWord, automaticWord, categoryWord, dataTypeWord, flagWord, kindWord, labelWord, letterWord};
-ghost use Rattle.names.specs.Words.{levelWord, numberWord, requestWord, roleWord, setWord, trustWord};
+ghost use Rattle.names.specs.Reasons.{failedText, flagReason, macReasons, reasonWord, roleReasons, textIf};
+ghost use Rattle.names.specs.Words.{answerWord, automaticWord, categoryWord, dataTypeWord, flagRow, flagWord, kindWord, labelWord};
+ghost use Rattle.names.specs.Words.{letterWord, lettersOf, levelWord, numberWord, requestWord, roleWord, setWord, trustWord};
 ghost use Rattle.text.specs.Stored.{Stored};
 use labels::Label;
 use reasons::Failed;
@@ -154,18 +155,32 @@ pub fn put_request(out: &mut [u8], place: usize, request: u8) -> usize
     put_word(out, place, words, 23, 22, request)
 }
 
+// The row of a flag, which is a bit, in the table of their words.
+fn flag_row(flag: u8) -> u8
+    ensures { λ r. ⌜ r ≡ flagRow flag ⌝ }
+{
+    match flag {
+        flags::READ_ONLY => 0,
+        flags::NO_EXECUTE => 1,
+        flags::NO_DELETE => 2,
+        flags::SEARCH_ONLY => 3,
+        flags::ADD_INHERITED => 4,
+        _ => 5,
+    }
+}
+
 // The word for a flag.
 pub fn put_flag_word(out: &mut [u8], place: usize, flag: u8) -> usize
     ensures { λ r. ⌜ Stored (now (out .entry)) place (flagWord flag) (now (out .exit)) r ⌝ }
 {
-    match flag {
-        flags::READ_ONLY => text::put_text(out, place, b"read-only"),
-        flags::NO_EXECUTE => text::put_text(out, place, b"no-execute"),
-        flags::NO_DELETE => text::put_text(out, place, b"no-delete"),
-        flags::SEARCH_ONLY => text::put_text(out, place, b"search-only"),
-        flags::ADD_INHERITED => text::put_text(out, place, b"add-inherited"),
-        _ => text::put_text(out, place, b"no flag"),
-    }
+    let words = b"\
+        read-only    \
+        no-execute   \
+        no-delete    \
+        search-only  \
+        add-inherited\
+        no flag      ";
+    put_word(out, place, words, 13, 5, flag_row(flag))
 }
 
 // What a number says.
@@ -208,34 +223,41 @@ pub fn put_level(out: &mut [u8], place: usize, level: u8) -> usize
 }
 
 // A category's letter, where the category is in the set.
-fn put_letter(out: &mut [u8], place: usize, category: u8, letter: &[u8], s: u8) -> usize
-    ensures { λ r. ⌜ Stored (now (out .entry)) place (letterWord category (now (letter .entry)) s) (now (out .exit)) r ⌝ }
+fn put_letter(out: &mut [u8], place: usize, category: u8, letter: u8, s: u8) -> usize
+    ensures { λ r. ⌜ Stored (now (out .entry)) place (letterWord category (letter ∷ []) s) (now (out .exit)) r ⌝ }
 {
     if flags::has(category, s) {
-        return text::put_text(out, place, letter);
+        return text::put_text(out, place, &[letter]);
     }
-    text::put_text(out, place, b"")
+    labels::least(place, out.len())
 }
 
-// The letters of a set of categories, with a blank before them, or that all are in it.
+// The letters of a set of categories.
+fn put_letters(out: &mut [u8], place: usize, s: u8) -> usize
+    ensures { λ r. ⌜ Stored (now (out .entry)) place (lettersOf s) (now (out .exit)) r ⌝ }
+{
+    let mut p = put_letter(out, place, 1, b'a', s);
+    p = put_letter(out, p, 2, b'b', s);
+    p = put_letter(out, p, 4, b'c', s);
+    p = put_letter(out, p, 8, b'd', s);
+    p = put_letter(out, p, 16, b'e', s);
+    p = put_letter(out, p, 32, b'f', s);
+    p = put_letter(out, p, 64, b'g', s);
+    put_letter(out, p, 128, b'h', s)
+}
+
+// The same with a blank before them, or that all are in it.
 pub fn put_set(out: &mut [u8], place: usize, s: u8) -> usize
     ensures { λ r. ⌜ Stored (now (out .entry)) place (setWord s) (now (out .exit)) r ⌝ }
 {
     if s == 0 {
-        return text::put_text(out, place, b"");
+        return labels::least(place, out.len());
     }
     if s == labels::ALL_CATEGORIES {
         return text::put_text(out, place, b" all");
     }
-    let mut p = text::put_text(out, place, b" ");
-    p = put_letter(out, p, 1, b"a", s);
-    p = put_letter(out, p, 2, b"b", s);
-    p = put_letter(out, p, 4, b"c", s);
-    p = put_letter(out, p, 8, b"d", s);
-    p = put_letter(out, p, 16, b"e", s);
-    p = put_letter(out, p, 32, b"f", s);
-    p = put_letter(out, p, 64, b"g", s);
-    put_letter(out, p, 128, b"h", s)
+    let p = text::put_text(out, place, b" ");
+    put_letters(out, p, s)
 }
 
 // A label: its level and its set.
@@ -246,40 +268,65 @@ pub fn put_label(out: &mut [u8], place: usize, l: Label) -> usize
     put_set(out, p, l.set)
 }
 
-// A text where something is so.
-fn put_where(out: &mut [u8], place: usize, told: bool, text: &[u8]) -> usize
-    ensures { λ r. ⌜ Stored (now (out .entry)) place (textIf told (now (text .entry))) (now (out .exit)) r ⌝ }
+// The rows of the conditions in the table of their texts.
+const LEVEL_UNSET: u8 = 0;
+
+const AUTOMATIC_OFF: u8 = 1;
+
+const NOT_UNDER_CLEARANCE: u8 = 2;
+
+const NOT_UNDER_WRITE_MARK: u8 = 3;
+
+const NOT_OVER_READ_MARK: u8 = 4;
+
+const LABELS_DIFFER: u8 = 5;
+
+const CATEGORY_UNSET: u8 = 6;
+
+const CATEGORY_NOT_OF_ROLE: u8 = 7;
+
+const NOT_SECURITY_OFFICER: u8 = 8;
+
+// The text of a condition, where it failed.
+fn put_reason(out: &mut [u8], place: usize, failed: bool, row: u8) -> usize
+    ensures { λ r. ⌜ Stored (now (out .entry)) place (textIf failed (reasonWord row)) (now (out .exit)) r ⌝ }
 {
-    if told {
-        return text::put_text(out, place, text);
+    let words = b"\
+        \x20(level unset)                                \
+        \x20(automatic off)                              \
+        \x20(label not under the clearance)              \
+        \x20(label not under the write mark)             \
+        \x20(label not over the read mark)               \
+        \x20(current labels differ)                      \
+        \x20(category unset)                             \
+        \x20(category not of the role)                   \
+        \x20(security information, not security officer) \
+        \x20(no condition)                               ";
+    if failed {
+        return put_word(out, place, words, 46, 9, row);
     }
-    text::put_text(out, place, b"")
+    labels::least(place, out.len())
 }
 
 // The conditions of MAC that failed.
 fn put_mac_reasons(out: &mut [u8], place: usize, w: Failed) -> usize
     ensures { λ r. ⌜ Stored (now (out .entry)) place (macReasons w) (now (out .exit)) r ⌝ }
 {
-    let mut p = put_where(out, place, w.unset, b" (level unset)");
-    p = put_where(out, p, w.fixed, b" (automatic off)");
-    p = put_where(out, p, w.clearance, b" (label not under the clearance)");
-    p = put_where(out, p, w.writemark, b" (label not under the write mark)");
-    p = put_where(out, p, w.readmark, b" (label not over the read mark)");
-    put_where(out, p, w.receiver, b" (current labels differ)")
+    let mut p = put_reason(out, place, w.unset, LEVEL_UNSET);
+    p = put_reason(out, p, w.fixed, AUTOMATIC_OFF);
+    p = put_reason(out, p, w.clearance, NOT_UNDER_CLEARANCE);
+    p = put_reason(out, p, w.writemark, NOT_UNDER_WRITE_MARK);
+    p = put_reason(out, p, w.readmark, NOT_OVER_READ_MARK);
+    put_reason(out, p, w.receiver, LABELS_DIFFER)
 }
 
 // Those of FC and SIM.
 fn put_role_reasons(out: &mut [u8], place: usize, w: Failed) -> usize
     ensures { λ r. ⌜ Stored (now (out .entry)) place (roleReasons w) (now (out .exit)) r ⌝ }
 {
-    let mut p = put_where(out, place, w.nocategory, b" (category unset)");
-    p = put_where(out, p, w.category, b" (category not of the role)");
-    put_where(
-        out,
-        p,
-        w.datatype,
-        b" (security information, not security officer)",
-    )
+    let mut p = put_reason(out, place, w.nocategory, CATEGORY_UNSET);
+    p = put_reason(out, p, w.category, CATEGORY_NOT_OF_ROLE);
+    put_reason(out, p, w.datatype, NOT_SECURITY_OFFICER)
 }
 
 // The flag by which FF does not grant, and the object whose own flag it is.
@@ -287,7 +334,7 @@ fn put_flag_reason(out: &mut [u8], place: usize, flag: u8, source: u8) -> usize
     ensures { λ r. ⌜ Stored (now (out .entry)) place (flagReason flag source) (now (out .exit)) r ⌝ }
 {
     if flag == 0 {
-        return text::put_text(out, place, b"");
+        return labels::least(place, out.len());
     }
     let mut p = text::put_text(out, place, b" (");
     p = put_flag_word(out, p, flag);

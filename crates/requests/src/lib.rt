@@ -143,7 +143,8 @@ const ON_OBJECT_CODE: u8 = 254;
 
 const UNKNOWN_CODE: u8 = 255;
 
-fn class_code(k: Class) -> u64
+// The number of a class, by which C is told it.
+pub fn class_code(k: Class) -> u64
     ensures { λ r. ⌜ r ≡ classCode k ⌝ }
 {
     match k {

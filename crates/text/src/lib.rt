@@ -1,4 +1,5 @@
 // Text stored into a lent buffer. What does not fit is cut off: no function here has a condition.
+ghost use mathlib.Core.List.{[]};
 ghost use Rattle.rules.specs.Lines.{decimal, field};
 ghost use Rattle.text.specs.Stored.{Stored};
 
@@ -17,6 +18,13 @@ pub fn put_text(out: &mut [u8], place: usize, text: &[u8]) -> usize
         j += 1;
     }
     place + n
+}
+
+// Stores no text: answers the place, or the end of the buffer where that comes first.
+pub fn put_nothing(out: &[u8], place: usize) -> usize
+    ensures { λ r. ⌜ Stored (now (out .entry)) place [] (now (out .entry)) r ⌝ }
+{
+    labels::least(place, out.len())
 }
 
 // A number in decimal.

@@ -9,6 +9,7 @@ use lib.Dec.{eqb}
 use Rattle.state.specs.declared.Call.{Call}
 use Rattle.state.specs.declared.Facility.{Facility}
 use Rattle.answers.specs.declared.Outcome.{Outcome}
+use Rattle.state.specs.declared.Object.{Object}
 use Rattle.state.specs.declared.Process.{Process}
 use Rattle.state.specs.declared.User.{User}
 use Rattle.labels.specs.Decisions.{_and_, _or_, on}
@@ -17,7 +18,6 @@ use Rattle.answers.specs.Outcomes.{noObject, numberOf, answersOf, objectNumberO
 use Rattle.state.specs.State.{refusalsOf}
 use Rattle.rules.specs.declared.Action.{Action}
 use Rattle.rules.specs.declared.Action.the-variants.{Login, Clone, SendSignal, SetLevel, Terminate, Create, OnObject, Unknown}
-use Rattle.rules.specs.declared.Target.{Target}
 use Rattle.rules.specs.declared.View.{View}
 use Rattle.rules.specs.Requests.{actionOf, inDirectory, isClone, isSendSignal}
 use Rattle.rules.specs.FileFlags.{readOnly, noExecute, noDelete, searchOnly, addInherited, has}
@@ -55,39 +55,38 @@ unfolding has flagWord said filledFrom flagText flagsText _or_ _and_
 example = refl
 
 -- an object: its number, and where it is live its kind, its level, the category that FC looks at, its data type, and the flags that FF sees
-abbrev pub objectText : ℕ → View → List ℕ
-objectText t v =
-    let o = v .target .object in
+abbrev pub objectText : ℕ → Object → ℕ → List ℕ
+objectText t o flags =
     cond (on (o .live))
     (filled (ascii " object # (%, level $*, category =, data type ?")
     (t ∷ o .kind ∷ o .label .level ∷ o .label .set ∷ o .category ∷ o .datatype ∷ [])
-    ++ flagsText (v .looked .flags) ++ ascii ")")
+    ++ flagsText flags ++ ascii ")")
     (filled (ascii " object # (not live)") (t ∷ []))
 
 -- what a create makes, and in which directory
-abbrev pub createText : Call → View → List ℕ
-createText c v =
-    cond (inDirectory (c .extra)) (filled (ascii " % in") (c .extra ∷ []) ++ objectText (c .target) v) (filled (ascii " %") (c .extra ∷ []))
+abbrev pub createText : Call → Object → ℕ → List ℕ
+createText c o flags =
+    cond (inDirectory (c .extra)) (filled (ascii " % in") (c .extra ∷ []) ++ objectText (c .target) o flags) (filled (ascii " %") (c .extra ∷ []))
 
--- a signal's receiver
-abbrev pub receiverText : ℕ → Target → List ℕ
-receiverText t x = filled (ascii " process # (") (t ∷ []) ++ processText (x .receiver) (x .owner) ++ ascii ")"
+-- a signal's receiver, and the user who owns it
+abbrev pub receiverText : ℕ → Process → User → List ℕ
+receiverText t r u = filled (ascii " process # (") (t ∷ []) ++ processText r u ++ ascii ")"
 
 -- what a request is about
 abbrev pub targetText : Action → Call → View → List ℕ
 targetText Login c v = filled (ascii " user #") (c .extra ∷ [])
 targetText Clone c v = filled (ascii " to process #, the clone of process #") (c .target ∷ c .process ∷ [])
-targetText SendSignal c v = receiverText (c .target) (v .target)
+targetText SendSignal c v = receiverText (c .target) (v .target .receiver) (v .target .owner)
 targetText SetLevel c v = filled (ascii " level #*") (c .extra ∷ c .target ∷ [])
 targetText Terminate c v = []
-targetText Create c v = createText c v
-targetText OnObject c v = objectText (c .target) v
+targetText Create c v = createText c (v .target .object) (v .looked .flags)
+targetText OnObject c v = objectText (c .target) (v .target .object) (v .looked .flags)
 targetText Unknown c v = filled (ascii " number #") (c .request ∷ [])
 
 -- who calls, and what for
-abbrev pub beforeText : ℕ → Call → View → List ℕ
-beforeText i c v =
-    decimal i ++ filled (ascii " process # (") (c .process ∷ []) ++ processText (v .caller) (v .owner) ++ filled (ascii "): &") (c .request ∷ [])
+abbrev pub beforeText : ℕ → Call → Process → User → List ℕ
+beforeText i c r u =
+    decimal i ++ filled (ascii " process # (") (c .process ∷ []) ++ processText r u ++ filled (ascii "): &") (c .request ∷ [])
 
 -- the object that a create made
 abbrev pub madeText : ℕ → List ℕ
@@ -105,24 +104,24 @@ abbrev pub outcomeText : Outcome → Reason → List ℕ
 outcomeText o r = answersText o ++ failedText (r .failed) (r .source) ++ madeText (objectNumberOf o) ++ ascii "; then "
 
 -- after a signal its receiver, after a cloning the clone
-abbrev pub laterText : Call → Target → List ℕ
-laterText c x =
+abbrev pub laterText : Call → Process → User → List ℕ
+laterText c r u =
     cond (isSendSignal (actionOf (c .request)) or isClone (actionOf (c .request)))
-    (filled (ascii "; process # then ") (c .target ∷ []) ++ processText (x .receiver) (x .owner)) []
+    (filled (ascii "; process # then ") (c .target ∷ []) ++ processText r u) []
 
 -- after a denial, how many refusals of the caller's owner are counted
-abbrev pub countText : Outcome → View → ℕ → List ℕ
-countText o v n = cond (denies (numberOf o)) (filled (ascii "; refusals of user #: ") (v .caller .owner ∷ []) ++ decimal n) []
+abbrev pub countText : Outcome → ℕ → ℕ → List ℕ
+countText o u n = cond (denies (numberOf o)) (filled (ascii "; refusals of user #: ") (u ∷ []) ++ decimal n) []
 
 -- the line of a call by what is told of it
 abbrev pub sentenceText : Told → List ℕ
 sentenceText t =
-    beforeText (t .index) (t .call) (t .before)
+    beforeText (t .index) (t .call) (t .before .caller) (t .before .owner)
     ++ targetText (actionOf (t .call .request)) (t .call) (t .before)
     ++ outcomeText (t .outcome) (t .reason)
     ++ processText (t .later .caller) (t .later .owner)
-    ++ laterText (t .call) (t .later .target)
-    ++ countText (t .outcome) (t .before) (t .count)
+    ++ laterText (t .call) (t .later .target .receiver) (t .later .target .owner)
+    ++ countText (t .outcome) (t .before .caller .owner) (t .count)
     ++ (lineFeed ∷ [])
 
 -- what failed of call c with number n, which looks at v, and the object of f that the flag comes from which forbids it
@@ -141,6 +140,19 @@ told i f c =
       outcome = query f c;
       later = viewOf (after f c) c;
       count = refusalsOf (after f c) (ownerIn f c);
+    }
+
+-- what is told of call c, the i-th, on f, that comes to o and leaves g
+unfoldable pub toldOf : ℕ → Facility → Facility → Outcome → Call → Told
+toldOf i f g o c =
+    record {
+      index = i;
+      call = c;
+      before = viewOf f c;
+      reason = reasonIn f (numberOf o) (viewOf f c) c;
+      outcome = o;
+      later = viewOf g c;
+      count = refusalsOf g (ownerIn f c);
     }
 
 -- the line of call c, the i-th, enforced on f

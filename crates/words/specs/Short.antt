@@ -25,7 +25,7 @@ use Rattle.rules.specs.Lines.{decimal, decimalIn, lineFeed}
 use Rattle.rules.specs.Text.{ascii}
 use Rattle.reasons.specs.declared.Failed.{Failed}
 use Rattle.reasons.specs.Reasons.{nothingFailed}
-use Rattle.names.specs.Words.{kindWord, letterWord, levelWord, numberWord, requestWord, setWord}
+use Rattle.names.specs.Words.{kindWord, letterWord, lettersOf, levelWord, numberWord, requestWord, setWord}
 use Rattle.names.specs.Reasons.{failedText, flagReason, macReasons, roleReasons, textIf}
 use Rattle.words.specs.Patterns.{filled, filledFrom, said}
 use Rattle.words.specs.Sentences.{Reason, Told, madeText, targetText, told}
@@ -127,7 +127,7 @@ seen r x o =
 
 -- the line of a call with this outcome, which failed so, on this object; the caller and the target as a process, before it and after it
 unfoldable line : ℕ → Call → Outcome → Failed → Object → Process → Process → Process → Process → List ℕ
-unfolding actionOf decimalIn said filledFrom requestWord numberWord kindWord levelWord has letterWord setWord textIf macReasons roleReasons flagReason
+unfolding actionOf decimalIn said filledFrom requestWord numberWord kindWord levelWord has letterWord lettersOf setWord textIf macReasons roleReasons flagReason
     failedText sameProcess same denies noProcess bottom _and_ _or_
 line i c u w o r x r′ x′ =
     shortText

@@ -7,10 +7,12 @@ ghost use Rattle.in_place.specs.Stores.{Becomes};
 ghost use Rattle.io.specs.Counts.{Counts};
 ghost use Rattle.rules.specs.Calls.{after};
 ghost use Rattle.rules.specs.Requests.{actionOf};
+ghost use Rattle.state.specs.State.{refusalsOf};
 ghost use Rattle.text.specs.Stored.{Stored};
 ghost use Rattle.words.specs.Patterns.{filled, said, signs};
 ghost use Rattle.words.specs.Sentences.{answersText, beforeText, countText, createText, flagText, flagsText, laterText, madeText, objectText};
-ghost use Rattle.words.specs.Sentences.{outcomeText, processText, reasonIn, receiverText, sentence, sentenceText, setupSentence, targetText, told};
+ghost use Rattle.words.specs.Sentences.{outcomeText, processText, reasonIn, receiverText, sentence, sentenceText, setupSentence, targetText};
+ghost use Rattle.words.specs.Sentences.{told, toldOf};
 ghost use Rattle.words.specs.Short.{shortSentence};
 
 mod short;
@@ -21,6 +23,7 @@ use rules::Action;
 use rules::View;
 use state::Call;
 use state::Facility;
+use state::Object;
 use state::Process;
 use state::User;
 
@@ -45,12 +48,6 @@ struct Told {
     outcome: Outcome,
     later: View,
     count: u32,
-}
-
-// The same, with the facility after the call.
-struct Telling {
-    told: Told,
-    facility: Facility,
 }
 
 // A byte of a pattern: a sign is the number n, said in the sign's way.
@@ -152,7 +149,7 @@ fn put_flag(out: &mut [u8; BUFFER], place: usize, flag: u8, v: u8) -> usize
     if flags::has(flag, v) {
         return put_one(out, place, b", \"", flag);
     }
-    text::put_text(out, place, b"")
+    text::put_nothing(out, place)
 }
 
 // The flags among v.
@@ -167,17 +164,17 @@ fn put_flags(out: &mut [u8; BUFFER], place: usize, v: u8) -> usize
 }
 
 // The object: its number, and where it is live its kind, level, category, data type and the flags that FF sees.
-fn put_object(out: &mut [u8; BUFFER], place: usize, c: Call, v: View) -> usize
-    ensures { λ x. ⌜ Stored (now (out .entry)) place (objectText (c .target) v) (now (out .exit)) x ⌝ }
+fn put_object(out: &mut [u8; BUFFER], place: usize, t: u8, o: Object, flags: u8) -> usize
+    ensures { λ x. ⌜ Stored (now (out .entry)) place (objectText t o flags) (now (out .exit)) x ⌝ }
 {
-    if v.target.object.live == 1 {
+    if o.live == 1 {
         let numbers = [
-            c.target,
-            v.target.object.kind,
-            v.target.object.label.level,
-            v.target.object.label.set,
-            v.target.object.category,
-            v.target.object.datatype,
+            t,
+            o.kind,
+            o.label.level,
+            o.label.set,
+            o.category,
+            o.datatype,
         ];
         let mut p = put_filled(
             out,
@@ -185,29 +182,29 @@ fn put_object(out: &mut [u8; BUFFER], place: usize, c: Call, v: View) -> usize
             b" object # (%, level $*, category =, data type ?",
             &numbers,
         );
-        p = put_flags(out, p, v.looked.flags);
+        p = put_flags(out, p, flags);
         return text::put_text(out, p, b")");
     }
-    put_one(out, place, b" object # (not live)", c.target)
+    put_one(out, place, b" object # (not live)", t)
 }
 
 // What a create makes, and in which directory.
-fn put_create(out: &mut [u8; BUFFER], place: usize, c: Call, v: View) -> usize
-    ensures { λ x. ⌜ Stored (now (out .entry)) place (createText c v) (now (out .exit)) x ⌝ }
+fn put_create(out: &mut [u8; BUFFER], place: usize, c: Call, o: Object, flags: u8) -> usize
+    ensures { λ x. ⌜ Stored (now (out .entry)) place (createText c o flags) (now (out .exit)) x ⌝ }
 {
     if requests::in_directory(c.extra) {
         let p = put_one(out, place, b" % in", c.extra);
-        return put_object(out, p, c, v);
+        return put_object(out, p, c.target, o, flags);
     }
     put_one(out, place, b" %", c.extra)
 }
 
-// A signal's receiver.
-fn put_receiver(out: &mut [u8; BUFFER], place: usize, c: Call, v: View) -> usize
-    ensures { λ x. ⌜ Stored (now (out .entry)) place (receiverText (c .target) (v .target)) (now (out .exit)) x ⌝ }
+// A signal's receiver, and the user who owns it.
+fn put_receiver(out: &mut [u8; BUFFER], place: usize, t: u8, r: Process, u: User) -> usize
+    ensures { λ x. ⌜ Stored (now (out .entry)) place (receiverText t r u) (now (out .exit)) x ⌝ }
 {
-    let mut p = put_one(out, place, b" process # (", c.target);
-    p = put_process(out, p, v.target.receiver, v.target.owner);
+    let mut p = put_one(out, place, b" process # (", t);
+    p = put_process(out, p, r, u);
     text::put_text(out, p, b")")
 }
 
@@ -224,22 +221,29 @@ fn put_target(out: &mut [u8; BUFFER], place: usize, c: Call, v: View) -> usize
             b" to process #, the clone of process #",
             &[c.target, c.process],
         ),
-        Action::SendSignal => put_receiver(out, place, c, v),
+        Action::SendSignal => put_receiver(out, place, c.target, v.target.receiver, v.target.owner),
         Action::SetLevel => put_filled(out, place, b" level #*", &[c.extra, c.target]),
-        Action::Terminate => put_one(out, place, b"", 0),
-        Action::Create => put_create(out, place, c, v),
-        Action::OnObject => put_object(out, place, c, v),
+        Action::Terminate => text::put_nothing(out, place),
+        Action::Create => put_create(out, place, c, v.target.object, v.looked.flags),
+        Action::OnObject => put_object(out, place, c.target, v.target.object, v.looked.flags),
         Action::Unknown => put_one(out, place, b" number #", c.request),
     }
 }
 
-// The call's index, the process before it, and the request.
-fn put_before(out: &mut [u8; BUFFER], place: usize, index: u64, c: Call, v: View) -> usize
-    ensures { λ x. ⌜ Stored (now (out .entry)) place (beforeText index c v) (now (out .exit)) x ⌝ }
+// The call's index, the process before it with the user who owns it, and the request.
+fn put_before(
+    out: &mut [u8; BUFFER],
+    place: usize,
+    index: u64,
+    c: Call,
+    r: Process,
+    u: User,
+) -> usize
+    ensures { λ x. ⌜ Stored (now (out .entry)) place (beforeText index c r u) (now (out .exit)) x ⌝ }
 {
     let mut p = text::put_decimal(out, place, index);
     p = put_one(out, p, b" process # (", c.process);
-    p = put_process(out, p, v.caller, v.owner);
+    p = put_process(out, p, r, u);
     put_one(out, p, b"): &", c.request)
 }
 
@@ -248,7 +252,7 @@ fn put_made(out: &mut [u8; BUFFER], place: usize, n: u8) -> usize
     ensures { λ x. ⌜ Stored (now (out .entry)) place (madeText n) (now (out .exit)) x ⌝ }
 {
     if n == answers::NO_OBJECT {
-        return text::put_text(out, place, b"");
+        return text::put_nothing(out, place);
     }
     put_one(out, place, b", object #", n)
 }
@@ -291,26 +295,26 @@ fn put_outcome(out: &mut [u8; BUFFER], place: usize, o: Outcome, r: Reason) -> u
     text::put_text(out, p, b"; then ")
 }
 
-// After a signal its receiver, after a cloning the clone.
-fn put_later(out: &mut [u8; BUFFER], place: usize, c: Call, v: View) -> usize
-    ensures { λ x. ⌜ Stored (now (out .entry)) place (laterText c (v .target)) (now (out .exit)) x ⌝ }
+// After a signal its receiver, after a cloning the clone, with the user who owns it.
+fn put_later(out: &mut [u8; BUFFER], place: usize, c: Call, r: Process, u: User) -> usize
+    ensures { λ x. ⌜ Stored (now (out .entry)) place (laterText c r u) (now (out .exit)) x ⌝ }
 {
     if requests::is_send_signal(c.request) | requests::is_clone(c.request) {
         let p = put_one(out, place, b"; process # then ", c.target);
-        return put_process(out, p, v.target.receiver, v.target.owner);
+        return put_process(out, p, r, u);
     }
-    text::put_text(out, place, b"")
+    text::put_nothing(out, place)
 }
 
-// After a denial, how many refusals of the caller's owner are counted.
-fn put_count(out: &mut [u8; BUFFER], place: usize, o: Outcome, v: View, n: u32) -> usize
-    ensures { λ x. ⌜ Stored (now (out .entry)) place (countText o v n) (now (out .exit)) x ⌝ }
+// After a denial, how many refusals of user u, the caller's owner, are counted.
+fn put_count(out: &mut [u8; BUFFER], place: usize, o: Outcome, u: u8, n: u32) -> usize
+    ensures { λ x. ⌜ Stored (now (out .entry)) place (countText o u n) (now (out .exit)) x ⌝ }
 {
     if answers::is_denial(o.number()) {
-        let p = put_one(out, place, b"; refusals of user #: ", v.caller.owner);
+        let p = put_one(out, place, b"; refusals of user #: ", u);
         return text::put_decimal(out, p, n as u64);
     }
-    text::put_text(out, place, b"")
+    text::put_nothing(out, place)
 }
 
 // The line of a call.
@@ -318,12 +322,18 @@ fn put_sentence(out: &mut [u8; BUFFER], place: usize, t: Told) -> usize
     ensures { λ x. ⌜ Stored (now (out .entry)) place (sentenceText t) (now (out .exit)) x ⌝ }
 {
     let o = t.outcome;
-    let mut p = put_before(out, place, t.index, t.call, t.before);
+    let mut p = put_before(out, place, t.index, t.call, t.before.caller, t.before.owner);
     p = put_target(out, p, t.call, t.before);
     p = put_outcome(out, p, o, t.reason);
     p = put_process(out, p, t.later.caller, t.later.owner);
-    p = put_later(out, p, t.call, t.later);
-    p = put_count(out, p, o, t.before, t.count);
+    p = put_later(
+        out,
+        p,
+        t.call,
+        t.later.target.receiver,
+        t.later.target.owner,
+    );
+    p = put_count(out, p, o, t.before.caller.owner, t.count);
     text::put_text(out, p, b"\n")
 }
 
@@ -345,31 +355,33 @@ fn reason_at(s: &[u8; in_place::SIZE], n: u8, v: View, c: Call) -> Reason
     Reason { failed, source }
 }
 
-// Enforces a call: what is told of it, and the facility after it.
-fn told_of(f: Facility, index: u64, c: Call) -> Telling
-    ensures { λ r. ⌜ r .told ≡ told index f c ⌝ }
-    ensures { λ r. ⌜ r .facility ≡ after f c ⌝ }
+// The counter of a user.
+fn count_of(f: Facility, u: u8) -> u32
+    ensures { λ r. ⌜ r ≡ refusalsOf f u ⌝ }
+{
+    labels::word_at(&f.refusals, u as usize)
+}
+
+// What is told of a call on the facility f that comes to o and leaves the facility g.
+fn told_of(f: Facility, g: Facility, o: Outcome, index: u64, c: Call) -> Told
+    ensures { λ r. ⌜ r ≡ toldOf index f g o c ⌝ }
 {
     let before = calls::view_of(f, c);
-    let enforced = calls::enforce(f, c);
-    let facility = enforced.facility;
-    let outcome = enforced.outcome;
-    let reason = reason_in(f, outcome.number(), before, c);
-    let later = calls::view_of(facility, c);
-    let count = labels::word_at(&facility.refusals, before.caller.owner as usize);
-    let told = Told {
+    let reason = reason_in(f, o.number(), before, c);
+    let later = calls::view_of(g, c);
+    let count = count_of(g, before.caller.owner);
+    Told {
         index,
         call: c,
         before,
         reason,
-        outcome,
+        outcome: o,
         later,
         count,
-    };
-    Telling { told, facility }
+    }
 }
 
-// The same on a facility where it is. The flag's object is looked for before the call, which may delete it.
+// Enforces a call on a facility where it is: what is told of it. The flag's object is looked for before the call, which may delete it.
 fn told_in(s: &mut [u8; in_place::SIZE], index: u64, c: Call) -> Told
     ensures { λ r. ⌜ r ≡ told index (facilityAt (now (s .entry))) c ⌝ }
     ensures { λ r. ⌜ Becomes (now (s .entry)) (now (s .exit)) (after (facilityAt (now (s .entry))) c) ⌝ }
@@ -397,9 +409,12 @@ pub fn tell(f: Facility, index: u64, c: Call, out: &mut [u8; BUFFER], place: &mu
     ensures { λ r. ⌜ Stored (now (out .entry)) (now (place .entry)) (sentence index f c) (now (out .exit)) (now (place .exit)) ⌝ }
     ensures { λ r. ⌜ Counts (now (place .exit)) (now (out .exit)) ⌝ }
 {
-    let t = told_of(f, index, c);
-    *place = put_sentence(out, *place, t.told);
-    t.facility
+    let e = calls::enforce(f, c);
+    let facility = e.facility;
+    let outcome = e.outcome;
+    let t = told_of(f, facility, outcome, index, c);
+    *place = put_sentence(out, *place, t);
+    facility
 }
 
 // The same with the short line.
@@ -413,9 +428,12 @@ pub fn tell_short(
     ensures { λ r. ⌜ r ≡ after f c ⌝ }
     ensures { λ r. ⌜ Stored (now (out .entry)) (now (place .entry)) (shortSentence index f c) (now (out .exit)) (now (place .exit)) ⌝ }
 {
-    let t = told_of(f, index, c);
-    *place = short::put_short(out, *place, t.told);
-    t.facility
+    let e = calls::enforce(f, c);
+    let facility = e.facility;
+    let outcome = e.outcome;
+    let t = told_of(f, facility, outcome, index, c);
+    *place = short::put_short(out, *place, t);
+    facility
 }
 
 // Both lines of a call on a facility where it is: its bytes become those of the facility after it. Answers where the line ends.

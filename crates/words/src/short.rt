@@ -124,7 +124,7 @@ fn put_caller(
         let p = text::put_text(out, place, b"; then ");
         return put_labels(out, p, x, u);
     }
-    text::put_text(out, place, b"")
+    text::put_nothing(out, place)
 }
 
 // The receiver of a signal, or the clone: told where it is not what it was.
@@ -144,7 +144,7 @@ fn put_receiver(
         let p = put_one(out, place, b"; process # then ", c.target);
         return put_labels(out, p, x, u);
     }
-    text::put_text(out, place, b"")
+    text::put_nothing(out, place)
 }
 
 // The line of a call.

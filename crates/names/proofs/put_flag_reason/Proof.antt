@@ -6,13 +6,17 @@ use Rattle.rules.specs.Lines.{decimal}
 use Rattle.rules.specs.Text.{ascii}
 use Rattle.names.specs.Words.{flagWord}
 use Rattle.names.specs.Reasons.{flagReason}
+use Rattle.text.specs.Laws.Stored.{store-empty}
 use Rattle.text.specs.Laws.Stores.{end, _▸_, stores}
 use Rattle.names.proofs.put_flag_reason.Statement.{statement}
 use Rattle.names.proofs.put_flag_reason.Tie as tie
 
 none : tie.Need-returns
 unfolding flagReason
-none c = let r = c .before .before in rw (eq-eqb _ 0 (r .before .before .before .if1 .taken)) (r .put-text .ensures)
+none c =
+    let test = c .before in
+    let a = test .before .before .args in
+    rw (eq-eqb _ 0 (test .if1 .taken)) (store-empty (a .out .now) (a .place) _ (c .least .ensures))
 
 some : tie.Need-returns-2
 unfolding flagReason
@@ -26,10 +30,10 @@ some c =
     let a = test .before .before .args in
     rw (ne-eqb _ 0 (test .if1 .left))
     (stores (a .out .now) (a .place) (ascii " (") (flagWord (a .flag) ∷ ascii " of object " ∷ decimal (a .source) ∷ ascii ")" ∷ [])
-    (c1 .put-text2 .ensures ▸ c2 .put-flag-word .ensures ▸ c3 .put-text3 .ensures ▸ c4 .put-small .ensures ▸ c5 .put-text4 .ensures ▸ end))
+    (c1 .put-text .ensures ▸ c2 .put-flag-word .ensures ▸ c3 .put-text2 .ensures ▸ c4 .put-small .ensures ▸ c5 .put-text3 .ensures ▸ end))
 
 pub put-flag-reason-spec : {M : Type 1} → statement M
 put-flag-reason-spec =
     tie.close
-    (tie.spec (λ c. search needs) (λ c κs. search needs) (λ c. search needs) none (λ c. search needs) (λ c κs. search needs) (λ c κs. search needs)
+    (tie.spec (λ c κs. search needs) none (λ c. search needs) (λ c κs. search needs) (λ c κs. search needs)
     (λ c. search needs) (λ c κs. search needs) (λ c κs. search needs) (λ c. search needs) (λ c κs. search needs) (λ c. search needs) some)

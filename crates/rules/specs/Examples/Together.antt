@@ -186,12 +186,11 @@ pub roles-and-trust :
 unfolding everything
 roles-and-trust = refl
 
--- every module off and on beside every other, MAC's switch first: user 0 writes the file without a level, officer 2 the shielded file, administrator 4
--- modifies the control data
+-- every module off and on beside every other, MAC's switch first: user 0 writes the file without a level, officer 2, as process 1, the shielded file,
+-- administrator 4, as process 2, modifies the control data
 pub switches-together :
-    map (λ s. digits (run (everybody (at s 0) (at s 1) (at s 2) (at s 3)) (call 21 0 0 0 ∷ [])) (call 20 0 4 0)
-    ∷ digits (run (everybody (at s 0) (at s 1) (at s 2) (at s 3)) (call 21 0 0 2 ∷ [])) (call 20 0 9 0)
-    ∷ digits (run (everybody (at s 0) (at s 1) (at s 2) (at s 3)) (call 21 0 0 4 ∷ [])) (call 10 0 11 0) ∷ [])
+    map (λ s. map (digits (run (everybody (at s 0) (at s 1) (at s 2) (at s 3)) (call 21 0 0 0 ∷ call 21 1 0 2 ∷ call 21 2 0 4 ∷ [])))
+    (call 20 0 4 0 ∷ call 20 1 9 0 ∷ call 10 2 11 0 ∷ []))
     switchings
     ≡ (0 ∷ 0 ∷ 0 ∷ [])
     ∷ (22 ∷ 22 ∷ 0 ∷ [])

@@ -72,6 +72,10 @@ store-done o l xs p j b h n e =
 pub store-none : (o xs : List ℕ) (p : ℕ) → length o ≤ p → Stored o p xs o (length o)
 store-none o xs p h = (sym (sets-out o p xs h), let q : length o ≡ min (p + length xs) (length o) = omega arith in q)
 
+-- no text: the buffer stays, and so does a place within it
+pub store-empty : (o : List ℕ) (p q : ℕ) → q ≡ min p (length o) → Stored o p [] o q
+store-empty o p q e = (refl, let h : q ≡ min (p + 0) (length o) = omega arith in h)
+
 -- the same text, said in another way
 pub as-text : (o m xs ys : List ℕ) (p q : ℕ) → xs ≡ ys → Stored o p xs m q → Stored o p ys m q
 as-text o m xs ys p q e s = subst (λ (t : List ℕ). Stored o p t m q) e s

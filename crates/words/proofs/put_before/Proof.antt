@@ -16,7 +16,7 @@ returns c =
     let c8 = c5 .before .before .before in
     let a = c8 .before .before .args in
     stores (a .out .now) (a .place) (decimal (a .index))
-    (filled (ascii " process # (") (a .c .process ∷ []) ∷ processText (a .v .caller) (a .v .owner) ∷ filled (ascii "): &") (a .c .request ∷ []) ∷ [])
+    (filled (ascii " process # (") (a .c .process ∷ []) ∷ processText (a .r) (a .u) ∷ filled (ascii "): &") (a .c .request ∷ []) ∷ [])
     (c8 .put-decimal .ensures ▸ c5 .put-one .ensures ▸ c3 .put-process .ensures ▸ c .put-one2 .ensures ▸ end)
 
 pub put-before-spec : {M : Type 1} → statement M

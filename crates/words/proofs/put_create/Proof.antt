@@ -14,7 +14,7 @@ in-directory c =
     let c5 = c .before .before .before .before .before in
     let a = c5 .before .before .args in
     rw (sym (c5 .before .in-directory .ensures) ∙ c5 .if1 .taken)
-    (stores (a .out .now) (a .place) (filled (ascii " % in") (a .c .extra ∷ [])) (objectText (a .c .target) (a .v) ∷ [])
+    (stores (a .out .now) (a .place) (filled (ascii " % in") (a .c .extra ∷ [])) (objectText (a .c .target) (a .o) (a .flags) ∷ [])
     (c .before .before .put-one .ensures ▸ c .put-object .ensures ▸ end))
 
 elsewhere : tie.Need-returns-2

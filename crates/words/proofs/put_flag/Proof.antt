@@ -11,9 +11,9 @@ told c = let c3 = c .before .before .before in rw (sym (c3 .before .has .ensures
 
 other : tie.Need-returns-2
 unfolding flagText
-other c = let c3 = c .before .before .before in rw (sym (c3 .before .has .ensures) ∙ c3 .if1 .left) (c .put-text .ensures)
+other c = let c3 = c .before .before .before in rw (sym (c3 .before .has .ensures) ∙ c3 .if1 .left) (c .put-nothing .ensures)
 
 pub put-flag-spec : {M : Type 1} → statement M
 put-flag-spec =
     tie.close
-    (tie.spec (λ c κs. search needs) (λ c. search needs) (λ c κs. search needs) told (λ c. search needs) (λ c κs. search needs) other)
+    (tie.spec (λ c κs. search needs) (λ c. search needs) (λ c κs. search needs) told (λ c κs. search needs) other)

@@ -16,9 +16,8 @@ told c =
     let clone = c5 .before in
     let signal = clone .before in
     let a = signal .before .args in
-    let x = a .v .target in
     rw (← clone .is-clone .ensures, ← signal .is-send-signal .ensures, c5 .if1 .taken)
-    (stores (a .out .now) (a .place) (filled (ascii "; process # then ") (a .c .target ∷ [])) (processText (x .receiver) (x .owner) ∷ [])
+    (stores (a .out .now) (a .place) (filled (ascii "; process # then ") (a .c .target ∷ [])) (processText (a .r) (a .u) ∷ [])
     (c .before .before .put-one .ensures ▸ c .put-process .ensures ▸ end))
 
 other : tie.Need-returns-2
@@ -26,10 +25,10 @@ unfolding _or_
 other c =
     let c3 = c .before .before .before in
     let clone = c3 .before in
-    rw (← clone .is-clone .ensures, ← clone .before .is-send-signal .ensures, c3 .if1 .left) (c .put-text .ensures)
+    rw (← clone .is-clone .ensures, ← clone .before .is-send-signal .ensures, c3 .if1 .left) (c .put-nothing .ensures)
 
 pub put-later-spec : {M : Type 1} → statement M
 put-later-spec =
     tie.close
-    (tie.spec (λ c κs. search needs) (λ c κs. search needs) (λ c. search needs) (λ c κs. search needs) (λ c κs. search needs) told (λ c. search needs)
-    (λ c κs. search needs) other)
+    (tie.spec (λ c κs. search needs) (λ c κs. search needs) (λ c. search needs) (λ c κs. search needs) (λ c κs. search needs) told (λ c κs. search needs)
+    other)

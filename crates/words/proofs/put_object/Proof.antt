@@ -15,12 +15,12 @@ live c =
     let c5 = c3 .before .before in
     let c9 = c5 .before .before .before .before in
     let a = c9 .before .before .args in
-    let o = a .v .target .object in
+    let o = a .o in
     rw (eq-eqb _ 1 (c9 .if1 .taken))
     (stores (a .out .now) (a .place)
     (filled (ascii " object # (%, level $*, category =, data type ?")
-    (a .c .target ∷ o .kind ∷ o .label .level ∷ o .label .set ∷ o .category ∷ o .datatype ∷ []))
-    (flagsText (a .v .looked .flags) ∷ ascii ")" ∷ []) (c5 .put-filled .ensures ▸ c3 .put-flags .ensures ▸ c .put-text .ensures ▸ end))
+    (a .t ∷ o .kind ∷ o .label .level ∷ o .label .set ∷ o .category ∷ o .datatype ∷ []))
+    (flagsText (a .flags) ∷ ascii ")" ∷ []) (c5 .put-filled .ensures ▸ c3 .put-flags .ensures ▸ c .put-text .ensures ▸ end))
 
 pub put-object-spec : {M : Type 1} → statement M
 put-object-spec =

@@ -13,9 +13,10 @@ returns c =
     let c3 = c .before .before .before in
     let c5 = c3 .before .before in
     let a = c5 .before .before .before .args in
-    let x = a .v .target in
-    stores (a .out .now) (a .place) (filled (ascii " process # (") (a .c .target ∷ [])) (processText (x .receiver) (x .owner) ∷ ascii ")" ∷ [])
+    stores (a .out .now) (a .place) (filled (ascii " process # (") (a .t ∷ [])) (processText (a .r) (a .u) ∷ ascii ")" ∷ [])
     (c5 .put-one .ensures ▸ c3 .put-process .ensures ▸ c .put-text .ensures ▸ end)
 
 pub put-receiver-spec : {M : Type 1} → statement M
-put-receiver-spec = tie.close (tie.spec (λ c. search needs) (λ c κs. search needs) (λ c κs. search needs) (λ c. search needs) (λ c κs. search needs) returns)
+put-receiver-spec =
+    tie.close
+    (tie.spec (λ c. search needs) (λ c κs. search needs) (λ c κs. search needs) (λ c. search needs) (λ c κs. search needs) returns)

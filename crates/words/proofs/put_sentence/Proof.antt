@@ -19,9 +19,10 @@ returns c =
     let c1 = c2 .before .before in
     let a = c1 .before .before .args in
     let t = a .t in
-    stores (a .out .now) (a .place) (beforeText (t .index) (t .call) (t .before))
+    stores (a .out .now) (a .place) (beforeText (t .index) (t .call) (t .before .caller) (t .before .owner))
     (targetText (actionOf (t .call .request)) (t .call) (t .before) ∷ outcomeText (t .outcome) (t .reason)
-    ∷ processText (t .later .caller) (t .later .owner) ∷ laterText (t .call) (t .later .target) ∷ countText (t .outcome) (t .before) (t .count)
+    ∷ processText (t .later .caller) (t .later .owner) ∷ laterText (t .call) (t .later .target .receiver) (t .later .target .owner)
+    ∷ countText (t .outcome) (t .before .caller .owner) (t .count)
     ∷ (lineFeed ∷ []) ∷ [])
     (c1 .put-before .ensures ▸ c2 .put-target .ensures ▸ c3 .put-outcome .ensures ▸ c4 .put-process .ensures ▸ c5 .put-later .ensures
     ▸ c6 .put-count .ensures ▸ c7 .put-text .ensures ▸ end)
@@ -29,6 +30,5 @@ returns c =
 pub put-sentence-spec : {M : Type 1} → statement M
 put-sentence-spec =
     tie.close
-    (tie.spec (λ c κs. search needs) (λ c κs. search needs) (λ c κs. search needs) (λ c κs. search needs) (λ c κs. search needs)
-    (λ c κs. search needs) (λ c. search needs)
-    (λ c κs. search needs) returns)
+    (tie.spec (λ c κs. search needs) (λ c κs. search needs) (λ c κs. search needs) (λ c κs. search needs) (λ c κs. search needs) (λ c κs. search needs)
+    (λ c. search needs) (λ c κs. search needs) returns)

@@ -26,10 +26,10 @@ other c =
     let c3 = c .before .before .before in
     let same = c3 .before in
     let denied = same .before in
-    rw (← denied .before .number .ensures, ← denied .is-denial .ensures, ← same .same-process .ensures, c3 .if1 .left) (c .put-text2 .ensures)
+    rw (← denied .before .number .ensures, ← denied .is-denial .ensures, ← same .same-process .ensures, c3 .if1 .left) (c .put-nothing .ensures)
 
 pub put-caller-spec : {M : Type 1} → statement M
 put-caller-spec =
     tie.close
     (tie.spec (λ c κs. search needs) (λ c κs. search needs) (λ c κs. search needs) (λ c. search needs) (λ c κs. search needs) (λ c κs. search needs) told
-    (λ c. search needs) (λ c κs. search needs) other)
+    (λ c κs. search needs) other)

@@ -27,10 +27,10 @@ other c =
     let c3 = c .before .before .before in
     let same = c3 .before in
     let clone = same .before in
-    rw (← clone .before .is-send-signal .ensures, ← clone .is-clone .ensures, ← same .same-process .ensures, c3 .if1 .left) (c .put-text .ensures)
+    rw (← clone .before .is-send-signal .ensures, ← clone .is-clone .ensures, ← same .same-process .ensures, c3 .if1 .left) (c .put-nothing .ensures)
 
 pub put-receiver-spec : {M : Type 1} → statement M
 put-receiver-spec =
     tie.close
     (tie.spec (λ c κs. search needs) (λ c κs. search needs) (λ c κs. search needs) (λ c. search needs) (λ c κs. search needs) (λ c κs. search needs) told
-    (λ c. search needs) (λ c κs. search needs) other)
+    (λ c κs. search needs) other)
