@@ -1,4 +1,6 @@
 // What a module answers, how answers are combined, and what a call, reading a set-up and writing one out come to.
+#![tactic(auto)]
+
 ghost use Rattle.std.specs.Prelude.{◌≡◌};
 ghost use Rattle.answers.specs.Answers.{code, combine, isNotGranted, isUndefined, grant};
 ghost use Rattle.answers.specs.Outcomes.{answers_from, outcome_of, number_of, answers_of, object_number_of, outcome_numbers, denies};
@@ -7,7 +9,7 @@ ghost use Rattle.answers.specs.Outcomes.{answers_from, outcome_of, number_of, an
 pub const NO_OBJECT: u8 = 255;
 
 // What a module answers to a call.
-#[derive(Drop)]
+#[derive(Clone, Copy)]
 pub enum Answer {
     NotCared,
     Granted,
@@ -16,7 +18,7 @@ pub enum Answer {
 }
 
 // The answers that a call returns: one of each module, and their combination.
-#[derive(Drop)]
+#[derive(Clone, Copy)]
 pub struct Answers {
     pub mac: Answer,
     pub fc: Answer,
@@ -26,7 +28,7 @@ pub struct Answers {
 }
 
 // What a call comes to.
-#[derive(Drop)]
+#[derive(Clone, Copy)]
 pub enum Outcome {
     // Number 0. `object` is the number that create gave, 255 with every other request.
     Accepted { answers: Answers, object: u8 },
@@ -37,7 +39,7 @@ pub enum Outcome {
 }
 
 // What reading a set-up comes to.
-#[derive(Drop)]
+#[derive(Clone, Copy)]
 pub enum SetupOutcome {
     Accepted,
     // Number 14 to 17 or 19, and the index of the record that is refused.
@@ -45,7 +47,7 @@ pub enum SetupOutcome {
 }
 
 // What writing a set-up out comes to.
-#[derive(Drop)]
+#[derive(Clone, Copy)]
 pub enum WriteOutcome {
     // The number of bytes written.
     Written { length: usize },
@@ -185,7 +187,7 @@ pub fn is_denial(number: u8) -> bool
 
 // A call's refusal number, the answers of the modules and their combination, and the object number that an accepted create gave (else 255).
 #[repr(C)]
-#[derive(Drop)]
+#[derive(Clone, Copy)]
 pub struct CallOutcome {
     pub number: u8,
     pub mac: u8,

@@ -1,4 +1,6 @@
 // Query and enforce on a facility by value.
+#![tactic(auto)]
+
 ghost use Rattle.std.specs.Prelude.{◌≡◌};
 ghost use Rattle.rules.specs.Calls.{enforce, query};
 ghost use Rattle.rules.specs.Modules.{view_of};

@@ -1,6 +1,8 @@
 // What the programs share: a set-up from a file, calls from standard input, lines to standard output. No contract can say which bytes the system gives or
 // takes; what it said of the last read or write is part of each result, and the rest is defined by it. What cannot be read or written is told on standard
 // error.
+#![tactic(auto)]
+
 ghost use Rattle.std.specs.Prelude.{◌≤◌, ◌+◌, min, ◌≡◌, length, take};
 ghost use Rattle.io.specs.Counts.{IsPrefixLen};
 ghost use Rattle.libc.specs.Io.{Moved};
@@ -15,14 +17,14 @@ const TRIES: u64 = 1 << 53;
 
 // What a read came to: how many bytes the front of the buffer has now, and what the system said. Where the buffer was full, and nothing was asked of the
 // system, that is 0, as for a read of no bytes.
-#[derive(Drop)]
+#[derive(Clone, Copy)]
 pub struct Got {
     pub total: usize,
     pub said: isize,
 }
 
 // What was read of a set-up: what it came to, how many bytes it has, and what the system said of the last read.
-#[derive(Drop)]
+#[derive(Clone, Copy)]
 pub struct SetupRead {
     pub reading: Reading,
     pub count: usize,
@@ -30,7 +32,7 @@ pub struct SetupRead {
 }
 
 // The bytes of a call that is not whole yet: how many there are, at most three, and each of them.
-#[derive(Drop)]
+#[derive(Clone, Copy)]
 pub struct Kept {
     pub count: usize,
     pub first: u8,
@@ -52,7 +54,7 @@ pub fn nothing_kept() -> Kept
 
 // What there is of the calls: how many bytes of the buffer are to be lined now, those that are kept for the next read, whether there may be more, and
 // whether the read failed; all by what the system said.
-#[derive(Drop)]
+#[derive(Clone, Copy)]
 pub struct Input {
     pub lined: usize,
     pub kept: Kept,
@@ -62,7 +64,7 @@ pub struct Input {
 }
 
 // What was written: how many bytes of the text the system took, and whether these are all.
-#[derive(Drop)]
+#[derive(Clone, Copy)]
 pub struct Written {
     pub taken: usize,
     pub all: bool,

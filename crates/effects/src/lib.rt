@@ -1,4 +1,6 @@
 // What an accepted call changes: decided once, applied by the state by value and by the bytes in place.
+#![tactic(auto)]
+
 ghost use Rattle.std.specs.Prelude.{◌≡◌};
 ghost use Rattle.rules.specs.Effects.{change_of, created, first_flags, first_parent};
 ghost use Rattle.rules.specs.Requests.{action_of};

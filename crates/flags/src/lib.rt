@@ -1,4 +1,6 @@
 // File flags: what an object inherits, where a flag comes from, and what flags forbid.
+#![tactic(auto)]
+
 ghost use Rattle.std.specs.Prelude.{cond, ◌≡◌};
 ghost use Rattle.labels.specs.Decisions.{on};
 ghost use Rattle.rules.specs.FileFlags.{effective, flag_source, forbidding, has};

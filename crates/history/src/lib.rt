@@ -1,4 +1,6 @@
 // Replay, the account of matter after a list of calls, and what an object holds.
+#![tactic(auto)]
+
 ghost use Rattle.std.specs.Prelude.{◌≡◌};
 ghost use Rattle.history.specs.CallBytes.{call_from};
 ghost use Rattle.history.specs.Replayed.{replayed};

@@ -1,6 +1,8 @@
 // The facility for C and Rust: `include/hvozdalka.h` declares these functions. Each is total: any bytes, any numbers, any facility.
 // Here are the structs, and the one function that makes a call of what C hands in. The functions stand in modules by section, and of two that do the same
 // the one that works on a facility where it is comes first.
+#![tactic(auto)]
+
 ghost use Rattle.std.specs.Prelude.{◌≡◌};
 ghost use Rattle.hvozdalka.specs.Numbers.{call_of, number_at};
 
@@ -19,7 +21,7 @@ pub mod version;
 
 // A call as C hands it in: its four bytes, and the seat of its process.
 #[repr(C)]
-#[derive(Drop)]
+#[derive(Clone, Copy)]
 pub struct SeatedCall {
     pub request: u8,
     pub process: u8,
@@ -29,14 +31,14 @@ pub struct SeatedCall {
 }
 
 #[repr(C)]
-#[derive(Drop)]
+#[derive(Clone, Copy)]
 pub struct CallEnforced {
     pub facility: Facility,
     pub outcome: CallOutcome,
 }
 
 #[repr(C)]
-#[derive(Drop)]
+#[derive(Clone, Copy)]
 pub struct SetupReading {
     pub facility: Facility,
     pub number: u8,
@@ -44,7 +46,7 @@ pub struct SetupReading {
 }
 
 #[repr(C)]
-#[derive(Drop)]
+#[derive(Clone, Copy)]
 pub struct SetupNumbers {
     pub number: u8,
     pub index: u16,
@@ -52,7 +54,7 @@ pub struct SetupNumbers {
 
 // Whether an object holds the matter of another, and what the set-up came to.
 #[repr(C)]
-#[derive(Drop)]
+#[derive(Clone, Copy)]
 pub struct Held {
     pub holds: bool,
     pub number: u8,
@@ -60,7 +62,7 @@ pub struct Held {
 }
 
 #[repr(C)]
-#[derive(Drop)]
+#[derive(Clone, Copy)]
 pub struct SetupWriting {
     pub length: usize,
     pub number: u8,
@@ -68,7 +70,7 @@ pub struct SetupWriting {
 
 // Switches, and how many users there are and objects were entered.
 #[repr(C)]
-#[derive(Drop)]
+#[derive(Clone, Copy)]
 pub struct Summary {
     pub mac: u8,
     pub fc: u8,

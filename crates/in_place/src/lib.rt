@@ -1,4 +1,6 @@
 // The facility in the bytes of a C struct, where they are. These functions are total; those of the modules ask for the length of a facility's bytes.
+#![tactic(auto)]
+
 ghost use Rattle.std.specs.Prelude.{◌≡◌};
 ghost use Rattle.in_place.specs.Layout.{facility_at};
 ghost use Rattle.in_place.specs.Stores.{Becomes};

@@ -1,4 +1,6 @@
 // Labels: what levels, marks and clearances are compared by, levels with categories; and the decisions that all other crates are made of.
+#![tactic(auto)]
+
 ghost use Rattle.std.specs.Prelude.{◌+◌, min, ◌≡◌};
 ghost use Rattle.labels.specs.Decisions.{ask, at};
 ghost use Rattle.labels.specs.Labels.{label, leq, same, join, meet, given, rank};
@@ -11,7 +13,7 @@ pub const ALL_CATEGORIES: u8 = 255;
 
 // What levels, marks and clearances are compared by. Only the operations on labels look inside.
 #[repr(C)]
-#[derive(Drop)]
+#[derive(Clone, Copy)]
 pub struct Label {
     pub level: u8,
     // Eight categories, a bit each.

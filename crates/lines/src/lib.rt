@@ -1,4 +1,6 @@
 // The run program's lines, stored into a lent buffer.
+#![tactic(auto)]
+
 ghost use Rattle.std.specs.Prelude.{◌+◌, ◌*◌, ◌/◌, ◌≤◌, ◌<◌, ◌≡◌, length};
 ghost use Rattle.answers.specs.Answers.{code};
 ghost use Rattle.answers.specs.Outcomes.{answers_of, number_of};
@@ -69,7 +71,7 @@ fn put_line(
 
 // A block of calls that is printed: the facility after it, and how many bytes its lines have.
 #[repr(C)]
-#[derive(Drop)]
+#[derive(Clone, Copy)]
 pub struct Printed {
     pub facility: Facility,
     pub length: usize,

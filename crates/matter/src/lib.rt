@@ -1,4 +1,6 @@
 // The account of matter: which object numbers each object and each process holds, kept as bits of words.
+#![tactic(auto)]
+
 ghost use Rattle.std.specs.Prelude.{min, ◌≡◌, get_or};
 ghost use Rattle.matter.specs.LedgerSteps.{assigned_nothing_of, carried_of, copied_of, created_of, entered_of, held_by, is_member, members_in, merged_of};
 ghost use Rattle.matter.specs.LedgerSteps.{no_members, object_gains_of, on_object_of, only_member, process_gains_of, received_of, with_object, with_process};
@@ -19,7 +21,7 @@ const OBJECT_WORDS: usize = 2 * OBJECTS;
 const PROCESS_WORDS: usize = 2 * state::PROCESSES;
 
 // A set of object numbers: number c is bit c of `low` below 64, and bit c - 64 of `high` from there to 127.
-#[derive(Drop)]
+#[derive(Clone, Copy)]
 pub struct Members {
     pub low: u64,
     pub high: u64,
@@ -27,7 +29,7 @@ pub struct Members {
 
 // Row x of `objects` is the words 2x and 2x + 1, the set that object x holds; so with `processes`. `next` is the next object number.
 #[repr(C)]
-#[derive(Drop)]
+#[derive(Clone, Copy)]
 pub struct Ledger {
     pub next: u8,
     pub kinds: [u8; OBJECTS],

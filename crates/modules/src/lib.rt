@@ -1,4 +1,6 @@
 // What the modules answer, and MAC's moves of the caller and of a signal's receiver.
+#![tactic(auto)]
+
 ghost use Rattle.std.specs.Prelude.{◌≡◌};
 ghost use Rattle.modules.specs.Parts.{answers_by, fc_answer_by, ff_answer_by, mac_alone, mac_answer_by, mac_rule_by, moved_by, sim_answer_by};
 ghost use Rattle.rules.specs.Modules.{class_in, fc_rule, ff_rule, levelled, mac_class, mac_object, mac_signal, may_read, may_set, may_write, move_by};

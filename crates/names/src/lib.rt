@@ -1,6 +1,8 @@
 // The words for numbers: requests, kinds, answers, flags, refusal numbers, levels, sets of categories, roles, trust, automatic, categories and data
 // types, and for the conditions that failed of a call. Words stand in tables, a row for each, with blanks behind them. What does not fit into the lent
 // buffer is cut off.
+#![tactic(auto)]
+
 ghost use Rattle.std.specs.Prelude.{◌+◌, ◌*◌, ◌≤◌, min, [], ◌∷◌, ◌≡◌, length};
 ghost use Rattle.names.specs.Tables.{size_in, word_at};
 ghost use Rattle.names.specs.Reasons.{failed_text, flag_reason, mac_reasons, reason_word, role_reasons, text_if};

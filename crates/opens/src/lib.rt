@@ -1,4 +1,6 @@
 // The opens: how processes have objects open, two bits in one byte for each pair.
+#![tactic(auto)]
+
 ghost use Rattle.std.specs.Prelude.{cond, ◌≡◌, ◌≤◌, length, set};
 ghost use Rattle.opens.specs.Opens.{add_modes, close_object, close_process, copy_process, mark_place, marks_after, most_objects, place, reading, writing};
 
@@ -13,7 +15,7 @@ const ROW: u16 = OBJECTS as u16;
 pub const PAIRS: u16 = (PROCESSES as u16) * ROW;
 
 // What a request on an object does to the opens.
-#[derive(Drop)]
+#[derive(Clone, Copy)]
 pub enum OpenChange {
     Keep,
     // The marks to add: 1 reading, 2 writing, 3 both.

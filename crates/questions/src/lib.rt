@@ -1,4 +1,6 @@
 // The ordered questions: what a call comes to, by what it looks at.
+#![tactic(auto)]
+
 ghost use Rattle.std.specs.Prelude.{◌≡◌, cond, eqb};
 ghost use Rattle.questions.specs.Parts.{late_number, later_number, object_number, outcome_by, outcome_in, process_number};
 ghost use Rattle.modules.specs.Parts.{answers_by};

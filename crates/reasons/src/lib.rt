@@ -1,4 +1,6 @@
 // Why a call is refused with 12 or 13: the conditions of the modules' rules that failed.
+#![tactic(auto)]
+
 ghost use Rattle.std.specs.Prelude.{◌≡◌};
 ghost use Rattle.reasons.specs.Reasons.{alone_failed, class_failed, failed_by, failed_in, failed_of, flag_failed, mac_failed, nothing_failed, object_failed};
 ghost use Rattle.reasons.specs.Reasons.{read_failed, set_failed, signal_failed, unless, write_failed, nothing_of_mac};
@@ -9,7 +11,7 @@ use state::{Call, Facility, Object, Process, User};
 
 // The conditions of MAC that failed. Of an object: its level is unset. Of the label that is asked for, where it is not the current one: automatic is off;
 // it is not under the clearance, not under the write mark, not over the read mark. Of a signal: the receiver's current label is another.
-#[derive(Drop)]
+#[derive(Clone, Copy)]
 struct MacFailed {
     unset: bool,
     fixed: bool,
@@ -22,7 +24,7 @@ struct MacFailed {
 // All conditions that failed: those of MAC; of FC, the category is unset, or is not of the role; of SIM, the object is security information, and the
 // role is not security officer; of FF the first flag that forbids the request, 0 where none does.
 #[repr(C)]
-#[derive(Drop)]
+#[derive(Clone, Copy)]
 pub struct Failed {
     pub unset: bool,
     pub fixed: bool,

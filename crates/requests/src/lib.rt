@@ -1,4 +1,6 @@
 // What a request acts on, its class by the kind of its object, and what it does to the opens.
+#![tactic(auto)]
+
 ghost use Rattle.std.specs.Prelude.{◌<◌, ◌≤◌, true, ◌≡◌};
 ghost use Rattle.requests.specs.ClassCodes.{class_named, word_right};
 ghost use Rattle.requests.specs.Request.{request_of};
@@ -9,7 +11,7 @@ use opens::OpenChange;
 use rules::{Action, Class};
 
 // What is known of a call's request: what it acts on, whether it needs an object, and its class by the kind of its object.
-#[derive(Drop)]
+#[derive(Clone, Copy)]
 pub struct Request {
     pub action: Action,
     pub object: bool,

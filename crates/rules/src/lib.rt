@@ -1,4 +1,6 @@
 // The types of the rules: what a request acts on, its class, what a call looks at, kinds of set-up records, and what reading and enforcing give.
+#![tactic(auto)]
+
 use answers::{Outcome, SetupOutcome};
 use state::{Facility, Object, Process, Switches, User};
 
@@ -76,7 +78,7 @@ pub const SECURITY_OFFICER: u8 = 1;
 pub const SECURITY_INFORMATION: u8 = 1;
 
 // What a request acts on. All requests that are not named here act on an object; a number above the last is no request.
-#[derive(Drop)]
+#[derive(Clone, Copy)]
 pub enum Action {
     Login,
     Clone,
@@ -89,7 +91,7 @@ pub enum Action {
 }
 
 // The class of a request by the kind of its object: R, W, B, N, or that the kind does not have the request.
-#[derive(Drop)]
+#[derive(Clone, Copy)]
 pub enum Class {
     Absent,
     Reads,
@@ -99,7 +101,7 @@ pub enum Class {
 }
 
 // What questions 1 to 5 look at: the number of users, and whether the caller and the receiver run.
-#[derive(Drop)]
+#[derive(Clone, Copy)]
 pub struct Runs {
     pub users: u8,
     pub caller: u8,
@@ -107,7 +109,7 @@ pub struct Runs {
 }
 
 // What a call's target is: as a process and as an object, how the caller has it open, and the owner of it as a process (a signal's receiver).
-#[derive(Drop)]
+#[derive(Clone, Copy)]
 pub struct Target {
     pub receiver: Process,
     pub object: Object,
@@ -116,13 +118,13 @@ pub struct Target {
 }
 
 // What the modules look up in tables: the effective flags of the target, where FF is on.
-#[derive(Drop)]
+#[derive(Clone, Copy)]
 pub struct Looked {
     pub flags: u8,
 }
 
 // What a call looks at: the switches, the counts, the caller and its owner, the target, and what the modules look up.
-#[derive(Drop)]
+#[derive(Clone, Copy)]
 pub struct View {
     pub switches: Switches,
     pub users: u8,
@@ -134,7 +136,7 @@ pub struct View {
 }
 
 // What a byte of a set-up record may be: 0 alone; 0 up to a number; that, or 255, which is unset; or bits of a number alone.
-#[derive(Drop)]
+#[derive(Clone, Copy)]
 pub enum Byte {
     Zero,
     Upto(u8),
@@ -143,7 +145,7 @@ pub enum Byte {
 }
 
 // What is asked of a record's bytes together, beside what each may be.
-#[derive(Drop)]
+#[derive(Clone, Copy)]
 pub enum Also {
     Nothing,
     // Byte 7, a set of categories, is 0 where byte 2, a level, is unset.
@@ -151,7 +153,7 @@ pub enum Also {
 }
 
 // A kind of set-up records: its place in the order, how many there may be, and what bytes 1 to 7 may be.
-#[derive(Drop)]
+#[derive(Clone, Copy)]
 pub struct Kind {
     pub place: u8,
     pub most: u16,
@@ -166,7 +168,7 @@ pub struct Kind {
 }
 
 // A set-up record: eight bytes.
-#[derive(Drop)]
+#[derive(Clone, Copy)]
 pub struct SetupRecord {
     pub kind: u8,
     pub one: u8,
@@ -179,14 +181,14 @@ pub struct SetupRecord {
 }
 
 // What reading a set-up gives.
-#[derive(Drop)]
+#[derive(Clone, Copy)]
 pub struct Reading {
     pub outcome: SetupOutcome,
     pub facility: Facility,
 }
 
 // What enforcing a call gives.
-#[derive(Drop)]
+#[derive(Clone, Copy)]
 pub struct Enforced {
     pub facility: Facility,
     pub outcome: Outcome,

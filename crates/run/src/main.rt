@@ -1,5 +1,7 @@
 // The run program of document 01: reads `setup.bin` and calls from standard input, and prints a line for each call. Each read is answered at once
 // with the lines of the calls that it completed. What cannot be read or written ends the program, and is told on standard error.
+#![tactic(auto)]
+
 ghost use Rattle.std.specs.Prelude.{◌<◌, ◌^◌, ◌≡◌, take};
 ghost use Rattle.console.specs.Files.{WholeFile};
 ghost use Rattle.in_place.specs.Stores.{Becomes};
@@ -15,7 +17,7 @@ const READS: u64 = 1 << 53;
 const CALLS: u64 = 1 << 62;
 
 // What was read of the set-up: what it came to, how many bytes it has, and what the system said of the last read.
-#[derive(Drop)]
+#[derive(Clone, Copy)]
 struct SetupRead {
     outcome: SetupOutcome,
     count: usize,
@@ -38,7 +40,7 @@ fn read_setup(bytes: &mut [u8], f: &mut [u8; in_place::SIZE]) -> SetupRead
 }
 
 // After a read: how many calls are done, what was read, how many bytes the lines have and how many of them were written, and whether more is to be read.
-#[derive(Drop)]
+#[derive(Clone, Copy)]
 struct After {
     done: u64,
     input: Input,

@@ -1,5 +1,7 @@
 // A run in words: reads `setup.bin` and calls from standard input as the run program does, and prints a line in words for each call. Its stored
 // case is the story of docs/LEVELS.md.
+#![tactic(auto)]
+
 ghost use Rattle.std.specs.Prelude.{◌≤◌, ◌<◌, ◌^◌, true, ◌≡◌, length};
 ghost use Rattle.rules.specs.Histories.{run as Histories·run};
 ghost use Rattle.rules.specs.Lines.{calls_of};
@@ -18,21 +20,21 @@ const CALLS: u64 = 1 << 62;
 const LINE: usize = 4096;
 
 // How many bytes of lines stay, and whether those that do not could be written.
-#[derive(Drop)]
+#[derive(Clone, Copy)]
 struct Stored {
     place: usize,
     written: bool,
 }
 
 // After calls: the facility, and whether their lines could be written.
-#[derive(Drop)]
+#[derive(Clone, Copy)]
 struct Told {
     facility: Facility,
     written: bool,
 }
 
 // After a read: the facility, how many calls are done, what was read, and whether more is to be read.
-#[derive(Drop)]
+#[derive(Clone, Copy)]
 struct After {
     facility: Facility,
     done: u64,

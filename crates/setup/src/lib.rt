@@ -1,4 +1,6 @@
 // Set-ups: reading one from bytes.
+#![tactic(auto)]
+
 ghost use Rattle.std.specs.Prelude.{◌*◌, ◌≤◌, [], ◌≡◌, length};
 ghost use Rattle.rules.specs.Kinds.{allowed_by, also_allowed, byte_allowed, kind_of, no_kind, objects_kind, switches_kind, users_kind};
 ghost use Rattle.rules.specs.Setup.{allowed_length, enter_all, enter_record, first_record, object_entered, read_setup};
@@ -124,7 +126,7 @@ fn kind_of(k: u8) -> Kind
 }
 
 // What the reader keeps of the records before a record: the kind of the last one, 0 where there is none, and how many of that kind there are.
-#[derive(Drop)]
+#[derive(Clone, Copy)]
 pub struct Progress {
     pub kind: u8,
     pub count: u16,

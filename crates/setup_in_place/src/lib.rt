@@ -1,4 +1,6 @@
 // A set-up read into the bytes of a facility, where they are.
+#![tactic(auto)]
+
 ghost use Rattle.std.specs.Prelude.{◌*◌, ◌≤◌, [], ◌≡◌, length};
 ghost use Rattle.in_place.specs.Layout.{facility_at};
 ghost use Rattle.in_place.specs.Stores.{Becomes};

@@ -1,4 +1,6 @@
 // The state: processes, users, objects and the facility that holds them, with its methods by value.
+#![tactic(auto)]
+
 ghost use Rattle.std.specs.Prelude.{◌≡◌};
 ghost use Rattle.state.specs.State.{add_object, add_user, all_off, blank, changed, cloned, closed, counted, deleted, fresh_process, marked};
 ghost use Rattle.state.specs.State.{no_process, object_in, object_of, objects_from, open_by, opened, process_in, process_of, processes_from, put_opens};
@@ -27,7 +29,7 @@ pub const MOST_REFUSALS: u32 = 4294967295;
 pub const MOST_MOVES: u8 = 255;
 
 // A call: four bytes.
-#[derive(Drop)]
+#[derive(Clone, Copy)]
 pub struct Call {
     pub request: u8,
     pub process: u8,
@@ -37,7 +39,7 @@ pub struct Call {
 
 // A process: `current`, `readmark` and `writemark` move with its calls.
 #[repr(C)]
-#[derive(Drop)]
+#[derive(Clone, Copy)]
 pub struct Process {
     pub running: u8,
     pub owner: u8,
@@ -51,7 +53,7 @@ pub struct Process {
 
 // A user: the clearance is fixed by the set-up.
 #[repr(C)]
-#[derive(Drop)]
+#[derive(Clone, Copy)]
 pub struct User {
     pub clearance: Label,
     pub role: u8,
@@ -59,7 +61,7 @@ pub struct User {
 }
 
 #[repr(C)]
-#[derive(Drop)]
+#[derive(Clone, Copy)]
 pub struct Object {
     pub live: u8,
     pub kind: u8,
@@ -74,7 +76,7 @@ pub struct Object {
 
 // Which modules are on, each 0 or 1.
 #[repr(C)]
-#[derive(Drop)]
+#[derive(Clone, Copy)]
 pub struct Switches {
     pub mac: u8,
     pub fc: u8,
@@ -83,7 +85,7 @@ pub struct Switches {
 }
 
 // What a call changes; p and t are numbers of processes or objects.
-#[derive(Drop)]
+#[derive(Clone, Copy)]
 pub enum Change {
     NoChange,
     // Process p becomes r.
@@ -123,7 +125,7 @@ pub enum Change {
 }
 
 #[repr(C)]
-#[derive(Drop)]
+#[derive(Clone, Copy)]
 pub struct Facility {
     // Switches, each 0 or 1.
     pub mac: u8,

@@ -1,4 +1,6 @@
 // Text stored into a lent buffer. What does not fit is cut off: no function here has a condition.
+#![tactic(auto)]
+
 ghost use Rattle.std.specs.Prelude.{[]};
 ghost use Rattle.rules.specs.Lines.{decimal, field};
 ghost use Rattle.text.specs.Stored.{Stored};

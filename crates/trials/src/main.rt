@@ -4,6 +4,8 @@
 // number, and of what replay returns the sixteen counters of refusals, the objects entered, the length and a sum of the bytes of the set-up written
 // out, and sums of the effective flags, of the moves and of the categories of the processes' labels; then how many pairs of objects the account
 // has of which the first holds the matter of the second.
+#![tactic(auto)]
+
 ghost use Rattle.std.specs.Prelude.{◌≤◌};
 
 use answers::{Answers, Outcome, SetupOutcome, WriteOutcome};

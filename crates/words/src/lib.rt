@@ -1,5 +1,7 @@
 // A run in words. Words stand in tables, a row for each, with blanks behind them; texts with numbers in them are patterns
 // (specs/Patterns.antt). What does not fit into the lent buffer is cut off.
+#![tactic(auto)]
+
 ghost use Rattle.std.specs.Prelude.{[], ◌∷◌, ◌≡◌};
 ghost use Rattle.in_place.specs.Layout.{facility_at};
 ghost use Rattle.in_place.specs.Stores.{Becomes};
@@ -28,14 +30,14 @@ pub const BUFFER: usize = 65536;
 const REFUSED_LENGTH: u8 = 14;
 
 // The conditions that failed, and the object that the flag comes from which forbids the request.
-#[derive(Drop)]
+#[derive(Clone, Copy)]
 struct Reason {
     failed: Failed,
     source: u8,
 }
 
 // What is told of a call: what it looks at before and after it, and the counter of the caller's owner after it.
-#[derive(Drop)]
+#[derive(Clone, Copy)]
 struct Told {
     index: u64,
     call: Call,

@@ -1,4 +1,6 @@
 // Set-ups: writing one out into a lent buffer.
+#![tactic(auto)]
+
 ghost use Rattle.std.specs.Prelude.{◌≤◌, [], ◌∷◌, ◌≡◌};
 ghost use Rattle.rules.specs.Setup.{new_number, new_parent, object_record};
 ghost use Rattle.rules.specs.Setup.{renumbered, setup_records, switches_record, user_record, write_setup};

@@ -49,7 +49,7 @@ and_assoc a b c = and_assoc_to (a + b + c) a b c (omega arith) (omega arith) (om
 and_or_to : (n a b c : ℕ) → a ≤ n → b ≤ n → c ≤ n → bit_and (bit_or a b) c ≡ bit_or (bit_and a c) (bit_and b c)
 and_or_to zero a b c h k l =
     let e : a ≡ 0 = omega arith in
-    rw (e, or_zero_l b, and_zero_l c, or_zero_l (bit_and b c))
+    rw (e, or_zero_l b)
 and_or_to (suc n) a b c h k l =
     halves _ _
     (and_half (bit_or a b) c ∙ ap (λ (x : ℕ). bit_and x (c / 2)) (or_half a b)

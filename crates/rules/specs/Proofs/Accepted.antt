@@ -126,6 +126,8 @@ turn_accepted f n (k ∷ ks) (s ∷ ss) past l u (next m j js t ts p two S C) =
     let (J, w) = section_follows k (s f) past l two (under_weaker n (kind_of k).place past p u) S in
     let l2 = length_onto past (s f) in
     accepted_append past (s f) (together ss f) J (turn_accepted f (suc (kind_of k).place) ks ss (onto past (s f)) (omega arith) w C)
+turn_accepted f n [] (s ∷ ss) past l u x6 = elim x6 [ ]
+turn_accepted f n (k ∷ ks) [] past l u x5 = elim x5 [ ]
 
 -- how many records they are at most
 unfoldable pub most_of : List ℕ → ℕ
@@ -139,6 +141,8 @@ turn_few f n (k ∷ ks) (s ∷ ss) (next m j js t ts p two S C) =
     let h = turn_few f (suc (kind_of k).place) ks ss C in
     let a = length-append (s f) (together ss f) in
     omega (arith, S.few)
+turn_few f n [] (s ∷ ss) x'' = elim x'' [ ]
+turn_few f n (k ∷ ks) [] x3 = elim x3 [ ]
 
 -- a section has all of its kind: where two facilities have the same records, they have the same sections
 abbrev Apart : ℕ → List SetupRecord → Type 0
@@ -165,6 +169,8 @@ turn_apart f n (h ∷ ks) (s ∷ ss) k b (next m j js t ts p two S C) =
     (all_weaker (λ r. r.kind ≡ h) (λ r. r.kind ≢ k) (s f)
     (λ r e z. let y : (kind_of h).place ≡ (kind_of k).place = ap (λ (i : ℕ). (kind_of i).place) (sym e ∙ z) in absurd (omega arith)) S.kinds)
     (turn_apart f (suc (kind_of h).place) ks ss k (omega arith) C)
+turn_apart f n [] (s ∷ ss) k b x4 = elim x4 [ ]
+turn_apart f n (h ∷ ks) [] k b x4 = elim x4 [ ]
 
 abbrev pub SameIn : List (Facility → List SetupRecord) → Facility → Facility → Type 0
 SameIn [] f g = Unit {0}
@@ -176,4 +182,6 @@ turn_same f g n m [] [] (done a) (done b) e = tt
 turn_same f g n m (k ∷ ks) (s ∷ ss) (next a1 a2 a3 a4 a5 a6 a7 S C) (next b1 b2 b3 b4 b5 b6 b7 T D) e =
     let (p, q) = split_same k (s f) (s g) (together ss f) (together ss g) S.kinds T.kinds
     (turn_apart f _ ks ss k (omega arith) C) (turn_apart g _ ks ss k (omega arith) D) e in
-    (p, turn_same f g _ _ ks ss C D q)
+    (p, turn_same f g (suc (kind_of k).place) (suc (kind_of k).place) ks ss C D q)
+turn_same f g n m [] (s ∷ ss) x6 _ e = elim x6 [ ]
+turn_same f g n m (k ∷ ks) [] x6 _ e = elim x6 [ ]

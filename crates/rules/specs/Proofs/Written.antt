@@ -83,6 +83,7 @@ grown f g r (s ∷ ss) (here t ts e a b) =
     ∙ sym (ap (λ (l : List SetupRecord). l ++ (r ∷ [])) (ap (λ (l : List SetupRecord). s f ++ l) a ∙ nothing-after (s f)))
 grown f g r (s ∷ ss) (there t ts e h) =
     (λ i. e i ++ grown f g r ss h i) ∙ sym (append_assoc (s f) (together ss f) (r ∷ []))
+grown f g r [] x' = elim x' [ ]
 
 written_more : (f g : Facility) (r : SetupRecord) → switches_of g ≡ switches_of f → Grown f g r sections → setup_records g ≡ setup_records f ++ (r ∷ [])
 unfolding setup_records

@@ -1,0 +1,11 @@
+-- The result is `may_write l r clr`.
+use Rattle.labels.specs.Decisions.{◌and◌, ◌or◌}
+use Rattle.rules.specs.Modules.{may_write}
+use Rattle.modules.proofs.may_write.Goals as goal
+
+pub returns : goal.returns
+unfolding may_write ◌and◌ ◌or◌
+returns c =
+    let c3 = c in
+    let c5 = c3 in
+    rw (c.at_most-3.ensures, c.at_most-2.ensures, c3.at_most.ensures, c5.same-held.ensures)

@@ -1,0 +1,34 @@
+-- The section so far, and the next user stored behind it.
+use Prim.Native.Nat.{◌-◌}
+use mathlib.Core.Path.{◌∙◌, ap, subst}
+use mathlib.Core.List.{[], ◌∷◌}
+use borrow.Author.Rules.{rules}
+use Rattle.rules.specs.declared.SetupRecord.{SetupRecord}
+use Rattle.rules.specs.Setup.{user_record}
+use Rattle.writer.specs.Writing.{Stored}
+use Rattle.writer.proofs.WritingLoop.{section_begins, section_place, section_goes_on, section_length, section_ends}
+use Rattle.writer.proofs.put_users.Goals as goal
+
+pub loop-k-init : goal.loop-k-init
+loop-k-init c = section_begins
+
+pub put_record-place-requires : goal.put_record-place-requires
+put_record-place-requires c =
+    let c4 = c in
+    let b = c4 in
+    section_place c4.loop-k.invariant b.requires (search (rules, b.ranges))
+
+pub loop-k-preserved : goal.loop-k-preserved
+loop-k-preserved c =
+    let p = c in
+    let c4 = p in
+    let l = c4.loop-k in
+    let e = p.user_record-r.ensures ∙ ap user_record p.user_at-u.ensures in
+    section_goes_on l.invariant c4.loop-k-test.true
+    (subst (λ (r : SetupRecord). Stored l.out l.place (r ∷ []) p.put_record-place.new.out p.put_record-place.result) e p.put_record-place.ensures)
+
+pub shape_of-out : goal.shape_of-out
+shape_of-out c = section_length c.loop-k.invariant
+
+pub returns : goal.returns
+returns c = section_ends c.loop-k.invariant c.loop-k-test.false
