@@ -19,5 +19,10 @@ returns c =
     let s = short_line a.calls.now in
     let n = length-append t s in
     let m = short_most a.calls.now in
-    let z = then a.out.now _ _ 0 _ _ t s l.0 short.put_short.ensures in
-    (z, (l.1.0, ((let b = l.1.1 in omega arith), counts a.out.now _ (t ++ s) 0 _ z)))
+    let z = then a.out.now _ _ 0 _ _ t s l.stored short.put_short.ensures in
+    record {
+      stored = z;
+      becomes = l.becomes;
+      calls_len_bound = (let b = l.calls_len_bound in omega arith);
+      prefix_len = counts a.out.now _ (t ++ s) 0 _ z;
+    }

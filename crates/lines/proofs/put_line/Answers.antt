@@ -19,8 +19,8 @@ returns c =
     let o = outcome.put_outcome-p1.ensures in
     let first = outcome_text a.index a.c a.outcome in
     let second = level_part a.running a.level in
-    let s0 = then a.out.now _ _ a.place _ _ first second o.0 level.put_level-p2.ensures in (
-      then a.out.now _ _ a.place _ _ (first ++ second) (10 ∷ []) s0 feed.put_text.ensures,
-      line_short a.index a.c a.outcome a.running a.level (search (rules, w)) (search (rules, g)) (search (rules, g)) (search (rules, g))
-          (search (rules, g.1.1)) o.1.0 o.1.1 (search (rules, w)),
-    )
+    let s0 = then a.out.now _ _ a.place _ _ first second o.stored level.put_level-p2.ensures in record {
+      stored = then a.out.now _ _ a.place _ _ (first ++ second) (10 ∷ []) s0 feed.put_text.ensures;
+      level_len_bound = line_short a.index a.c a.outcome a.running a.level (search (rules, w)) (search (rules, g)) (search (rules, g)) (search (rules, g))
+          (search (rules, g.1.1)) o.outcome_bound o.outcome_bound_2 (search (rules, w));
+    }

@@ -11,7 +11,11 @@ pub returns-then-first-ge9223372036854775808 : goal.returns-then-first-ge9223372
 returns-then-first-ge9223372036854775808 c =
     let a = c.args in
     let b = block_none a.out.now a.first a.start a.calls.now c.if-first-ge9223372036854775808.true in
-    (b.stored, (b.facility, b.most))
+    record {
+      stored = b.stored;
+      facility_value = b.facility;
+      calls_len_bound = b.most;
+    }
 
 pub loop-i-init : goal.loop-i-init
 loop-i-init c =
@@ -51,7 +55,7 @@ loop-i-preserved c =
           (search (rules, l.invariant.0, t))
           called.call_at-c.ensures (ap (λ (x : Enforced). x.outcome) e) (ap (λ (x : Enforced). x.facility) e) running.at-running.ensures
           level.at-level.ensures
-          p.0 p.1,
+          p.stored p.level_len_bound,
     )
 
 pub returns : goal.returns
@@ -60,4 +64,8 @@ returns c =
     let a = c.args in
     let b = block_done a.out.now a.first a.start a.calls.now l.out l.place l.index l.f l.i
     (search (rules, c.if-first-ge9223372036854775808.false)) l.invariant.2 l.invariant.0 (search (rules, l.invariant.0, c.loop-i-test.false)) in
-    (b.stored, (b.facility, b.most))
+    record {
+      stored = b.stored;
+      facility_value = b.facility;
+      calls_len_bound = b.most;
+    }

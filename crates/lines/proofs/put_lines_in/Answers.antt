@@ -11,7 +11,11 @@ pub returns-then-first-ge9223372036854775808 : goal.returns-then-first-ge9223372
 returns-then-first-ge9223372036854775808 c =
     let a = c.args in
     let b = block_none a.out.now a.first (facility_at a.s.now) a.calls.now c.if-first-ge9223372036854775808.true in
-    (b.stored, ((b.facility, refl), b.most))
+    record {
+      stored = b.stored;
+      becomes = (b.facility, refl);
+      calls_len_bound = b.most;
+    }
 
 pub loop-i-init : goal.loop-i-init
 loop-i-init c =
@@ -48,8 +52,8 @@ loop-i-preserved c =
       search (rules, l.invariant.0, t),
       search (rules, l.invariant.1),
       left_goes_on a.out.now a.first _ a.calls.now l.out l.place l.index (facility_at l.s) l.i _ _ _ _ _ _ _ l.invariant.2
-          (search (rules, l.invariant.0, t)) called.call_at-c.ensures e.0 e.1.0 b.0 b.1 p.0 p.1,
-      e.1.1 ∙ l.invariant.3,
+          (search (rules, l.invariant.0, t)) called.call_at-c.ensures e.value e.becomes.0 b.0 b.1 p.stored p.level_len_bound,
+      e.becomes.1 ∙ l.invariant.3,
     )
 
 pub returns : goal.returns
@@ -59,4 +63,8 @@ returns c =
     let b =
     block_done a.out.now a.first (facility_at a.s.now) a.calls.now l.out l.place l.index (facility_at l.s) l.i
     (search (rules, c.if-first-ge9223372036854775808.false)) l.invariant.2 l.invariant.0 (search (rules, l.invariant.0, c.loop-i-test.false)) in
-    (b.stored, ((b.facility, l.invariant.3), b.most))
+    record {
+      stored = b.stored;
+      becomes = (b.facility, l.invariant.3);
+      calls_len_bound = b.most;
+    }

@@ -25,9 +25,10 @@ returns c =
     let d : k.result ≡ code (answers_of a.outcome).combined = k.ensures ∙ ap (λ (x : Answers). code x.combined) c14.answers-answers.ensures in
     let s0 = then a.out.now _ _ a.place _ _ (call_text a.index a.c) (field n.result) c11.put_call-p1.ensures c6.put_byte-p2.ensures in
     let s1 = then a.out.now _ _ a.place _ _ (call_text a.index a.c ++ field n.result) (field k.result) s0
-    c.put_byte.ensures in (
-      as_text a.out.now _ _ (outcome_text a.index a.c a.outcome) a.place _
+    c.put_byte.ensures in record {
+      stored = as_text a.out.now _ _ (outcome_text a.index a.c a.outcome) a.place _
           (ap (λ (x : ℕ). call_text a.index a.c ++ field x ++ field k.result) n.ensures
-          ∙ ap (λ (x : ℕ). call_text a.index a.c ++ field (number_of a.outcome) ++ field x) d) s1,
-      (search (rules, n.ensures), search (rules, d)),
-    )
+          ∙ ap (λ (x : ℕ). call_text a.index a.c ++ field (number_of a.outcome) ++ field x) d) s1;
+      outcome_bound = search (rules, n.ensures);
+      outcome_bound_2 = search (rules, d);
+    }

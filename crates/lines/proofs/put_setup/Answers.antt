@@ -16,4 +16,7 @@ returns c =
     let s0 = then a.out.now _ _ 0 _ _ (ascii "set-up ") (field a.number) c15.put_text-p1.ensures c11.put_byte-p2.ensures in
     let s1 = then a.out.now _ _ 0 _ _ (ascii "set-up " ++ field a.number) (decimal a.index) s0 c7.put_decimal-p3.ensures in
     let s2 = then a.out.now _ _ 0 _ _ (ascii "set-up " ++ field a.number ++ decimal a.index) ((10 ∷ [])) s1 c.put_text.ensures in
-    (s2, counts a.out.now _ (setup_line a.number a.index) 0 _ s2)
+    record {
+      stored = s2;
+      prefix_len = counts a.out.now _ (setup_line a.number a.index) 0 _ s2;
+    }

@@ -1,6 +1,6 @@
 -- A process that runs is told by its numbers, and the bound of its moves behind them.
 use mathlib.Core.List.{[], ◌∷◌}
-use borrow.Author.Tests.{eq-eqb}
+use borrow.Author.Tests.{eq-eqb, ne_eqb}
 use Rattle.rules.specs.Lines.{decimal}
 use Rattle.rules.specs.Text.{ascii}
 use Rattle.words.specs.Patterns.{filled}
@@ -21,3 +21,6 @@ returns-then-r-eq1 c =
     ∷ r.readmark.set ∷ r.writemark.level ∷ r.writemark.set ∷ r.automatic ∷ r.moves ∷ []))
     (decimal _ ∷ [])
     (c3.put_filled-p.ensures ▸ rw c1.most_moves.ensures at c.put_decimal.ensures ▸ end))
+
+pub returns : goal.returns
+returns c = rw (ne_eqb _ 1 c.if-r-eq1.false) c.put_text.ensures

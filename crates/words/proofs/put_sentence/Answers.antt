@@ -17,10 +17,10 @@ returns c =
     let c1 = c2 in
     let a = c1.args in
     let t = a.t in
-    stores a.out.now a.place (before_text t.index t.call t.caller t.owner)
-    (target_text (action_of t.call.request) t.call t ∷ outcome_text t.outcome t.reason
+    stores a.out.now a.place (before_text t.index t.call t.before.caller t.before.owner)
+    (target_text (action_of t.call.request) t.call t.before ∷ outcome_text t.outcome t.reason
     ∷ process_text t.later.caller t.later.owner ∷ later_text t.call t.later.target.receiver t.later.target.owner
-    ∷ count_text t.outcome t.caller.owner t.count
+    ∷ count_text t.outcome t.before.caller.owner t.count
     ∷ (line_feed ∷ []) ∷ [])
     (c1.put_before-p.ensures ▸ c2.put_target-p.ensures ▸ c3.put_outcome-p.ensures ▸ c4.put_process-p.ensures ▸ c5.put_later-p.ensures
     ▸ c6.put_count-p.ensures ▸ c7.put_text.ensures ▸ end)

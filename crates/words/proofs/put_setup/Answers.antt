@@ -26,7 +26,10 @@ returns-then-number-eq-REFUSED_LENGTH c =
     let c4 = c in
     let a = c4.args in
     let s = as_text a.out.now _ _ _ 0 _ (of_length a.number a.index c4.if-number-eq-REFUSED_LENGTH.true) c.put_filled.ensures in
-    (s, counts a.out.now _ (setup_sentence a.number a.index) 0 _ s)
+    record {
+      stored = s;
+      prefix_len = counts a.out.now _ (setup_sentence a.number a.index) 0 _ s;
+    }
 
 pub returns : goal.returns
 returns c =
@@ -38,4 +41,7 @@ returns c =
     (stores a.out.now 0 (ascii "set-up refused at record ")
     (decimal a.index ∷ filled (ascii ": # !" ++ (line_feed ∷ [])) (a.number ∷ a.number ∷ []) ∷ [])
     (c6.put_text-p.ensures ▸ c4.put_decimal-p.ensures ▸ c.put_filled-2.ensures ▸ end)) in
-    (s, counts a.out.now _ (setup_sentence a.number a.index) 0 _ s)
+    record {
+      stored = s;
+      prefix_len = counts a.out.now _ (setup_sentence a.number a.index) 0 _ s;
+    }

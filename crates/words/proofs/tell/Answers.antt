@@ -17,4 +17,8 @@ returns c =
     let h = told_enforced a.index a.f _ _ a.c _ telling.told_of-t.ensures g q in
     let t = sentence a.index a.f a.c in
     let s = as_text a.out.now _ _ t a.place.now _ (ap sentence_text h) c.put_sentence.ensures in
-    (g, (s, counts a.out.now _ t a.place.now _ s))
+    record {
+      value = g;
+      stored = s;
+      prefix_len = counts a.out.now _ t a.place.now _ s;
+    }

@@ -11,4 +11,7 @@ returns c =
     let a = told.args in
     let e = told.told_in.ensures in
     let t = sentence a.index (facility_at a.s.now) a.c in
-    (as_text a.out.now _ _ t a.place _ (ap sentence_text e.0) c.put_sentence.ensures, e.1)
+    record {
+      stored = as_text a.out.now _ _ t a.place _ (ap sentence_text e.value) c.put_sentence.ensures;
+      becomes = e.becomes;
+    }

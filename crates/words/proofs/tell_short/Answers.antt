@@ -15,4 +15,7 @@ returns c =
     let g = ap (λ (x : Enforced). x.facility) e in
     let q = ap (λ (x : Enforced). x.outcome) e in
     let h = told_enforced a.index a.f _ _ a.c _ telling.told_of-t.ensures g q in
-    (g, as_text a.out.now _ _ (short_sentence a.index a.f a.c) a.place.now _ (ap short_text h) c.put_short.ensures)
+    record {
+      value = g;
+      stored = as_text a.out.now _ _ (short_sentence a.index a.f a.c) a.place.now _ (ap short_text h) c.put_short.ensures;
+    }

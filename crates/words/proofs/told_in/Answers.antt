@@ -13,8 +13,8 @@ returns c =
     let foretold = number in
     let before = foretold in
     let a = before.args in
-    let e = enforced.enforce_in-outcome.ensures in (
-      told_found a.index (facility_at a.s.now) _ a.c _ _ _ _ _ _ _ before.view_of-before.ensures foretold.query_in-foretold.ensures
-          number.number.ensures reason.reason_at-reason.ensures e.0 e.1.0 later.view_of-later.ensures count.counter_of-count.ensures,
-      e.1,
-    )
+    let e = enforced.enforce_in-outcome.ensures in record {
+      value = told_found a.index (facility_at a.s.now) _ a.c _ _ _ _ _ _ _ before.view_of-before.ensures foretold.query_in-foretold.ensures
+          number.number.ensures reason.reason_at-reason.ensures e.value e.becomes.0 later.view_of-later.ensures count.counter_of-count.ensures;
+      becomes = e.becomes;
+    }

@@ -21,8 +21,8 @@ returns c =
     let t = a.t in
     stores a.out.now a.place (decimal t.index)
     (filled (ascii " process # &") (t.call.process ∷ t.call.request ∷ [])
-    ∷ short_target (action_of t.call.request) t.call t ∷ short_outcome t.outcome t.reason
-    ∷ caller_then t.outcome t.caller t.later.caller t.later.owner
-    ∷ target_then t.call t.target.receiver t.later.target.receiver t.later.target.owner ∷ (line_feed ∷ []) ∷ [])
+    ∷ short_target (action_of t.call.request) t.call t.before ∷ short_outcome t.outcome t.reason
+    ∷ caller_then t.outcome t.before.caller t.later.caller t.later.owner
+    ∷ target_then t.call t.before.target.receiver t.later.target.receiver t.later.target.owner ∷ (line_feed ∷ []) ∷ [])
     (c1.put_decimal-p.ensures ▸ c2.put_filled-p.ensures ▸ c3.put_short_target-p.ensures ▸ c4.put_outcome-p.ensures ▸ c5.put_caller-p.ensures
     ▸ c6.put_receiver-p.ensures ▸ c7.put_text.ensures ▸ end)
