@@ -12,7 +12,7 @@ use borrow.Author.Tests.{le-ltb}
 use native.Mathlib.Omega.{arith}
 use Rattle.io.specs.Counts.{clamp_len}
 use Rattle.libc.specs.Io.{Moved}
-use Rattle.labels.specs.Laws.Decisions.{clash}
+use Rattle.labels.proofs.Laws.Decisions.{clash}
 use Rattle.console.specs.Files.{bytes_said, failure_said, more_said}
 
 -- a signed number as the machine holds it, read back

@@ -7,7 +7,7 @@ use native.Mathlib.Omega.{arith}
 use borrow.Author.Rules.{rules}
 use borrow.Author.Tests.{not-true}
 use mathlib.Core.Bool.{false}
-use Rattle.labels.specs.Laws.Decisions.{clash}
+use Rattle.labels.proofs.Laws.Decisions.{clash}
 use Rattle.console.specs.Files.{failure_said, more_said}
 use Rattle.console.proofs.Said.{held, held_is, failed_no_more}
 use Rattle.console.proofs.read_whole.Statement.{statement}

@@ -5,7 +5,7 @@ use lib.ListN.{length, drop}
 use lib.Seq.{length-take-le}
 use native.Mathlib.Omega.{arith}
 use borrow.Author.Rules.{rules}
-use Rattle.labels.specs.Laws.Decisions.{clash}
+use Rattle.labels.proofs.Laws.Decisions.{clash}
 use Rattle.state.specs.declared.Facility.{Facility}
 use Rattle.rules.specs.Calls.{after}
 use Rattle.rules.specs.Histories.{run}

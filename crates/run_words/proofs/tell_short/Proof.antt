@@ -2,7 +2,7 @@
 use mathlib.Core.Path.{refl}
 use borrow.Author.Rules.{rules}
 use borrow.Author.Tests.{not-false}
-use Rattle.labels.specs.Laws.Decisions.{clash}
+use Rattle.labels.proofs.Laws.Decisions.{clash}
 use Rattle.run_words.proofs.tell_short.Statement.{statement}
 use Rattle.run_words.proofs.tell_short.Tie as tie
 

@@ -2,7 +2,7 @@
 use mathlib.Core.Bool.{Bool, true, false, not, ◌&&◌}
 use mathlib.Core.Path.{◌≡◌, refl}
 use borrow.Author.Rules.{rules}
-use Rattle.labels.specs.Laws.Decisions.{clash}
+use Rattle.labels.proofs.Laws.Decisions.{clash}
 use Rattle.run_words.proofs.turn.Statement.{statement}
 use Rattle.run_words.proofs.turn.Tie as tie
 
