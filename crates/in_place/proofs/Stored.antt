@@ -11,7 +11,6 @@ use borrow.Author.Tests.{lt-ltb, le-ltb, eq-eqb, ne_eqb, ltb-true, ltb-false}
 use Rattle.in_place.specs.Stores.{store_in, store_field, padding, padding_in}
 use Rattle.labels.proofs.Laws.Decisions.{by-test, by-eq}
 use Rattle.in_place.specs.Layout.{part, size, offset, field_of, the_opens, the_entered}
-use Rattle.labels.specs.Decisions.{at}
 use Rattle.in_place.proofs.BytesOfParts.{byte_in}
 
 pub store_inside : (s : List ℕ) (from n i v : ℕ) → i < n → set s (from + i) v ≡ store_in s from n i v

@@ -1,7 +1,7 @@
 -- What the lists of classes tell of single requests.
 use Rattle.std.specs.Prelude.{ℕ, ◌≡◌, refl, ◌≢◌, Bool, true, not, leb, eqb}
 use Rattle.std.proofs.Common.{arith, eqb-true, ne_eqb}
-use Rattle.labels.specs.Decisions.{◌or◌, at}
+use Rattle.labels.specs.Decisions.{◌or◌}
 use Rattle.labels.proofs.Laws.Decisions.{clash, by-test, by-eq}
 use Rattle.opens.specs.Opens.{reading, writing}
 use Rattle.rules.specs.Requests.{Create, Class, Absent, Reads, Writes, Both, NoCondition, Add, last_request, action_of, files, directories, channels}

@@ -4,7 +4,7 @@ use Rattle.std.specs.Prelude.{ℕ, ◌+◌, ◌<◌, ◌≡◌, ◌≢◌, Bool,
 use Rattle.std.proofs.Common.{sym, ◌∙◌, ap, subst, arith, eqb-true, eq-eqb, ne_eqb}
 use Rattle.std.proofs.Math.Path.{subst⁻¹}
 use Rattle.rules.specs.Types.{Process, Object, Facility}
-use Rattle.labels.specs.Decisions.{at, on}
+use Rattle.labels.specs.Decisions.{on}
 use Rattle.labels.proofs.Laws.Decisions.{or_cases, by-test, by-eq}
 use Rattle.state.specs.Laws.ReadBack.{object_new, object_old}
 use Rattle.opens.specs.Opens.{most_processes, most_objects, most_opens, reading, writing}

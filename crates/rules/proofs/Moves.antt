@@ -1,7 +1,7 @@
 -- MAC's moves of a process: what a granted call of each class does to its marks. By the laws of labels alone.
 use Rattle.std.specs.Prelude.{ℕ, ◌<◌, ◌≡◌, refl, Bool, true, false}
 use Rattle.rules.specs.Types.{Call, Process, User, Object, Facility}
-use Rattle.labels.specs.Decisions.{◌and◌, at, on}
+use Rattle.labels.specs.Decisions.{◌and◌, on}
 use Rattle.labels.proofs.Laws.Decisions.{and_l, and_r, or_cases, clash, by-test}
 use Rattle.opens.specs.Opens.{most_processes}
 use Rattle.state.specs.State.{process_of, put_process}

@@ -9,7 +9,7 @@ use Rattle.labels.proofs.Laws.Decisions.{and_l, and_r, clash, by-test}
 use Rattle.labels.specs.Labels.{Label, same, lawful}
 use Rattle.labels.proofs.Laws.Labels.{eq_same, rank_lawful}
 use Rattle.state.specs.State.{Users, users_in, user_in, user_of, process_of, runs, clearance_of, most_moves, put_process, put_opens, put_object, drop_object}
-use Rattle.state.specs.State.{put_refusals, counted, fresh_process, no_process}
+use Rattle.state.specs.State.{put_refusals, fresh_process, no_process}
 use Rattle.state.specs.Laws.ReadBack.{one_more_law}
 use Rattle.answers.specs.Answers.{passes}
 use Rattle.answers.proofs.Laws.Answers.{passes_grant}

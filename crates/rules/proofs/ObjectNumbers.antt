@@ -2,7 +2,7 @@
 use Rattle.std.specs.Prelude.{ℕ, ◌+◌, ◌<◌, ◌≡◌, refl, ◌≢◌, Bool, true, false, not, cond, List, [], ◌∷◌, ltb, eqb, length}
 use Rattle.std.proofs.Common.{◌∙◌, ap, subst, arith, ltb-true, lt-ltb, ne_eqb}
 use Rattle.rules.specs.Types.{Call, Object, Facility}
-use Rattle.labels.specs.Decisions.{◌and◌, ask, at}
+use Rattle.labels.specs.Decisions.{◌and◌, ask}
 use Rattle.labels.proofs.Laws.Decisions.{and_l, by-test}
 use Rattle.answers.specs.Outcomes.{denies, outcome_of, object_number_of}
 use Rattle.opens.specs.Opens.{most_objects}

@@ -2,7 +2,7 @@
 use Rattle.std.specs.Prelude.{ℕ, ◌<◌, ◌≡◌, refl, ◌≢◌, true, false, List, [], ◌∷◌, ltb}
 use Rattle.std.proofs.Common.{sym, ◌∙◌, ap, subst, ltb-true, eqb-true}
 use Rattle.rules.specs.Types.{Switches, Call, Facility}
-use Rattle.labels.specs.Decisions.{at, on}
+use Rattle.labels.specs.Decisions.{on}
 use Rattle.labels.proofs.Laws.Decisions.{or_none, clash, by-test}
 use Rattle.state.specs.State.{label_of}
 use Rattle.rules.specs.Flow.{Above, OnlyWhen}

@@ -4,7 +4,7 @@ use Rattle.std.specs.Prelude.{ℕ, ◌<◌, ◌≡◌, refl, Bool, true, false, 
 use Rattle.std.proofs.Common.{subst, ltb-true, eqb-true, lt-ltb}
 use Rattle.std.proofs.lemmas.Bool.{not-true}
 use Rattle.rules.specs.Types.{Answer, NotCared, Granted, NotGranted, Undefined, Call, Facility}
-use Rattle.labels.specs.Decisions.{◌or◌, asked, ask, at, on}
+use Rattle.labels.specs.Decisions.{◌or◌, asked, ask, on}
 use Rattle.labels.proofs.Laws.Decisions.{and_l, and_r, and_i, ask_yes, ask_later, ask_i, clash}
 use Rattle.answers.specs.Outcomes.{answers_from, denies}
 use Rattle.opens.specs.Opens.{most_processes, most_objects}

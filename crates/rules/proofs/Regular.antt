@@ -5,7 +5,7 @@ use Rattle.std.proofs.Common.{ap, ◌∙◌, length-set, arith, ltb-true, leb-tr
 use Rattle.std.proofs.Math.Path.{subst⁻¹}
 use Rattle.std.proofs.Math.Bool.{true}
 use Rattle.rules.specs.Types.{Call, Process, User, Object, Facility}
-use Rattle.labels.specs.Decisions.{◌and◌, ◌or◌, at, on}
+use Rattle.labels.specs.Decisions.{◌and◌, ◌or◌, on}
 use Rattle.labels.proofs.Laws.Decisions.{and_l, and_r, or_cases, clash, by-test, by-eq}
 use Rattle.state.specs.Laws.ReadBack.{user_new, user_old, object_new, object_old, add_object_law}
 use Rattle.opens.specs.Laws.Loops.{length_object_closed, length_process_closed, length_process_copied}

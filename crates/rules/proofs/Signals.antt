@@ -4,7 +4,7 @@ use Rattle.std.proofs.Common.{sym, ◌∙◌, ap}
 use Rattle.std.proofs.lemmas.List.{set-get_or}
 use borrow.Author.Tests.{eq-eqb, ne_eqb}
 use Rattle.rules.specs.Types.{Call, Facility}
-use Rattle.labels.specs.Decisions.{◌and◌, at, on}
+use Rattle.labels.specs.Decisions.{◌and◌, on}
 use Rattle.labels.proofs.Laws.Decisions.{by-test}
 use Rattle.state.specs.State.{process_in, process_of, trusted_user, users_in, objects_in, processes_from, with_levels, with, put_process}
 use Rattle.labels.specs.Labels.{Label}

@@ -3,7 +3,7 @@ use Rattle.std.specs.Prelude.{ℕ, ◌<◌, ◌≡◌, refl, ◌≢◌, Bool, tr
 use Rattle.std.proofs.Common.{sym, ◌∙◌, subst, arith, ltb-true, eqb-true, eq-eqb, ne_eqb}
 use Rattle.std.proofs.lemmas.Bool.{not-true}
 use Rattle.rules.specs.Types.{Call, Process, Facility}
-use Rattle.labels.specs.Decisions.{◌and◌, at}
+use Rattle.labels.specs.Decisions.{◌and◌}
 use Rattle.labels.proofs.Laws.Decisions.{or_cases, clash, by-test}
 use Rattle.state.specs.Laws.ReadBack.{process_same, process_other, add_object_law, opens_put}
 use Rattle.opens.specs.Laws.Opens.{terminated_opens}

@@ -1,5 +1,5 @@
 -- What is gathered, with what is inherited further up, makes the effective flags.
-use Prim.Native.Nat.{◌-◌, ◌<◌}
+use Prim.Native.Nat.{◌<◌}
 use mathlib.Core.Path.{◌≡◌}
 use lib.Bits.{bit_or}
 use Rattle.rules.specs.FileFlags.{effective}

@@ -1,5 +1,5 @@
 -- The source further up is the source of the whole.
-use Prim.Native.Nat.{◌-◌, ◌<◌}
+use Prim.Native.Nat.{◌<◌}
 use mathlib.Core.Path.{◌≡◌}
 use Rattle.rules.specs.FileFlags.{flag_source}
 use Rattle.flags.specs.Lists.{flagged, inherits_from}

@@ -1,5 +1,4 @@
 -- The result is `ledger_of setup (calls_of calls)`.
-use Prim.Native.Nat.{◌-◌}
 use mathlib.Core.Path.{sym, ◌∙◌}
 use borrow.Author.Rules.{rules}
 use Rattle.history.specs.Laws.CallBytes.{account_begins, account_goes_on, account_done}

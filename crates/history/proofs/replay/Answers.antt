@@ -1,5 +1,5 @@
 -- The result is `replayed setup calls`.
-use Prim.Native.Nat.{◌+◌, ◌-◌}
+use Prim.Native.Nat.{◌+◌}
 use mathlib.Core.Path.{sym, ◌∙◌, ap}
 use lib.ListN.{drop}
 use borrow.Author.Rules.{rules}

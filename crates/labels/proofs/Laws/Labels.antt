@@ -7,7 +7,6 @@ use Rattle.std.specs.Int.Count.{ones}
 use Rattle.labels.specs.Labels.{unset, all_categories, Label, within, leq, ◌⊑◌, same, larger, smaller, join, meet, bottom, lawful, top, given, label}
 use Rattle.labels.specs.Labels.{rank}
 use Rattle.labels.specs.LabelLaws.{LabelLaws}
-use Rattle.labels.specs.Decisions.{◌and◌}
 use Rattle.labels.proofs.Laws.Decisions.{and_l, and_r, and_i, by-test, clash}
 use Rattle.labels.proofs.Laws.Bits.{or_assoc, and_absorbed, or_and, within_byte, within_most, within_ones_most, within_same}
 

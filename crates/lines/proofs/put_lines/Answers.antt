@@ -1,5 +1,5 @@
 -- What is left to print, stored behind what is printed, makes the whole; each turn prints one line.
-use Prim.Native.Nat.{◌+◌, ◌-◌, ◌≤◌}
+use Prim.Native.Nat.{◌+◌, ◌≤◌}
 use mathlib.Core.Path.{ap}
 use Rattle.rules.specs.declared.Enforced.{Enforced}
 use native.Mathlib.Omega.{arith}

@@ -1,5 +1,5 @@
 -- As put_lines, with the facility in its bytes: each turn prints one line, and the bytes become those of the facility after the call.
-use Prim.Native.Nat.{◌+◌, ◌-◌, ◌≤◌}
+use Prim.Native.Nat.{◌+◌, ◌≤◌}
 use mathlib.Core.Path.{refl, ◌∙◌}
 use native.Mathlib.Omega.{arith}
 use borrow.Author.Rules.{rules}

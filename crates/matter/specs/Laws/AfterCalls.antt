@@ -3,7 +3,6 @@ use Rattle.std.specs.Prelude.{◌<◌, ◌+◌, ℕ, ◌≡◌, refl, true, cond
 use Rattle.std.proofs.Common.{sym, ◌∙◌, ap, arith, ltb-true}
 use Rattle.state.specs.declared.Call.{Call}
 use Rattle.state.specs.declared.Facility.{Facility}
-use Rattle.labels.specs.Decisions.{at}
 use Rattle.opens.specs.Opens.{most_objects}
 use Rattle.state.specs.State.{live}
 use Rattle.rules.specs.Calls.{owner_in, accepted, after}

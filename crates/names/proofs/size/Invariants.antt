@@ -1,5 +1,5 @@
 -- The blanks behind a row are passed one by one: what is left has the same size without blanks as the whole row.
-use Prim.Native.Nat.{◌-◌, ◌≤◌}
+use Prim.Native.Nat.{◌≤◌}
 use mathlib.Core.Path.{◌≡◌}
 use lib.ListN.{length}
 use Rattle.names.specs.Tables.{size_in}

@@ -1,5 +1,5 @@
 -- One store in each row, which together are the opens without those on object t.
-use Prim.Native.Nat.{ℕ, ◌+◌, ◌-◌, ◌/◌}
+use Prim.Native.Nat.{ℕ, ◌+◌, ◌/◌}
 use mathlib.Core.Path.{◌≡◌, ◌∙◌, ap, sym}
 use lib.ListN.{set, length-set}
 use native.Mathlib.Omega.{arith}

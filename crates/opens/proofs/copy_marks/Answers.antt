@@ -1,5 +1,4 @@
 -- One store for each object, which together are the opens with those of process p copied to t.
-use Prim.Native.Nat.{◌-◌}
 use mathlib.Core.Path.{◌≡◌, ◌∙◌, ap}
 use lib.ListN.{length, set}
 use native.Mathlib.Omega.{arith}

@@ -1,5 +1,4 @@
 -- One store for each object, as mark by mark, but no place is past the end.
-use Prim.Native.Nat.{◌-◌}
 use mathlib.Core.Path.{◌≡◌, ◌∙◌, ap}
 use lib.ListN.{length-set}
 use native.Mathlib.Omega.{arith}

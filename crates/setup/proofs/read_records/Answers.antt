@@ -1,5 +1,5 @@
 -- At each record the rest is read as the whole is.
-use Prim.Native.Nat.{ℕ, ◌+◌, ◌*◌, ◌-◌}
+use Prim.Native.Nat.{ℕ, ◌+◌, ◌*◌}
 use mathlib.Core.Bool.{Bool}
 use mathlib.Core.Path.{◌≡◌, sym, ◌∙◌, ap, subst₂}
 use native.Mathlib.Omega.{arith}

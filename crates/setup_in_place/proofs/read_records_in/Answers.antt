@@ -1,9 +1,8 @@
 -- At each record the rest is read as the whole is, and the padding stays.
-use Prim.Native.Nat.{ℕ, ◌+◌, ◌*◌, ◌-◌}
+use Prim.Native.Nat.{ℕ, ◌+◌, ◌*◌}
 use mathlib.Core.Bool.{Bool}
 use mathlib.Core.Path.{◌≡◌, refl, sym, ◌∙◌, ap, subst₂}
 use native.Mathlib.Omega.{arith}
-use borrow.Author.Rules.{rules}
 use Rattle.in_place.specs.Layout.{facility_at}
 use Rattle.rules.specs.Setup.{refused_setup}
 use Rattle.setup.specs.Laws.FirstRecord.{From, from_begins, from_goes_on, from_stops, from_ends}

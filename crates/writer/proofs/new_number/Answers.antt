@@ -1,7 +1,5 @@
 -- At each object the number so far is that of the live ones before it.
-use Prim.Native.Nat.{◌-◌}
 use mathlib.Core.Path.{◌≡◌, ◌∙◌, ap, sym}
-use mathlib.Core.Logic.{⊎_elim}
 use native.Mathlib.Omega.{arith}
 use borrow.Author.Rules.{rules}
 use Rattle.rules.specs.Setup.{new_number}
@@ -27,9 +25,10 @@ loop-k-preserved c =
     let a = c.args in
     let e = c.at.ensures in (
       search rules,
-      elim c.if-at-eq1.branch
-      [ then-at-eq1 w ↦ w.n-is ∙ number_live a.lives.now l.k l.n l.invariant.1 (sym e ∙ w.if-at-eq1.true)
-      | else-at-eq1 w ↦ w.n-is ∙ number_gone a.lives.now l.k l.n l.invariant.1 (λ z. w.if-at-eq1.false (e ∙ z)) ],
+      elim c.if-at-eq1.branch [
+        | then-at-eq1 w ↦ w.n-is ∙ number_live a.lives.now l.k l.n l.invariant.1 (sym e ∙ w.if-at-eq1.true)
+        | else-at-eq1 w ↦ w.n-is ∙ number_gone a.lives.now l.k l.n l.invariant.1 (λ z. w.if-at-eq1.false (e ∙ z))
+      ],
     )
 
 pub returns : goal.returns

@@ -1,5 +1,4 @@
 -- The section so far, and the next user stored behind it.
-use Prim.Native.Nat.{◌-◌}
 use mathlib.Core.Path.{◌∙◌, ap, subst}
 use mathlib.Core.List.{[], ◌∷◌}
 use borrow.Author.Rules.{rules}

@@ -5,7 +5,6 @@ use mathlib.Core.List.{List, ◌++◌}
 use lib.ListN.{length}
 use native.Mathlib.Omega.{arith}
 use Rattle.state.specs.State.{objects_from, users_from}
-use Rattle.state.specs.declared.Facility.{Facility}
 use Rattle.rules.specs.Setup.{setup_records}
 use Rattle.writer.specs.Writing.{facility_with, Stored}
 use Rattle.writer.proofs.WritingLoop.{put_none, no_room, all_room}

@@ -1,8 +1,6 @@
 -- The result is `at (part s from n) i`.
 use Rattle.in_place.proofs.BytesOfParts.{byte_in, byte_past}
 use borrow.Author.Rules.{rules}
-use Rattle.in_place.proofs.readers.byte_in.Reads as reads
-use Rattle.in_place.proofs.readers.byte_in.Lts as lts
 use Rattle.in_place.proofs.readers.byte_in.Goals as goal
 
 pub returns-then-n-i : goal.returns-then-n-i

@@ -1,6 +1,5 @@
 -- The result is `object_of f t`.
 use Rattle.in_place.specs.Layout.{facility_at}
-use Rattle.labels.specs.Labels.{label}
 use Rattle.state.specs.State.{object_in}
 use Rattle.in_place.proofs.readers.object_in.Goals as goal
 

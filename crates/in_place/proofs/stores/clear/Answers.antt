@@ -1,5 +1,5 @@
 -- A store for each byte from the one place to the other.
-use Prim.Native.Nat.{ℕ, ◌-◌, ◌<◌}
+use Prim.Native.Nat.{ℕ, ◌<◌}
 use mathlib.Core.Path.{◌≡◌, ◌∙◌, ap, refl}
 use mathlib.Core.List.{List}
 use lib.ListN.{length, set, length-set}

@@ -1,10 +1,8 @@
 -- The counter of the user gets one more, where there is such a user and the counter is not at its stop.
 use borrow.Author.Rules.{rules}
-use Prim.Native.Nat.{ℕ}
 use mathlib.Core.Path.{◌≡◌, sym}
 use lib.ListN.{length}
 use borrow.Author.Tests.{lt-ltb}
-use borrow.Author.Rules.{length_unmapped}
 use Rattle.state.specs.State.{most_users, put_refusals, counted}
 use Rattle.state.specs.Laws.ReadBack.{counted_stays, counted_none}
 use Rattle.state.proofs.Facility.counted.Goals as goal

@@ -1,13 +1,11 @@
 -- Process p is stored, and then its mark on object t; a number that is none changes nothing.
-use Rattle.opens.specs.Opens.{most_processes, most_opens, marks_after}
+use Rattle.opens.specs.Opens.{most_opens, marks_after}
 use Rattle.state.specs.State.{processes_in, put_process, put_opens, opens_of}
 use Rattle.state.specs.Shaped.{ProcessesShaped}
 use Rattle.state.specs.Laws.ReadBack.{opens_out, marks_of_none}
-use borrow.Author.Rules.{length_unmapped}
 use lib.ListN.{length, set}
 use mathlib.Core.Path.{◌≡◌, sym, ◌∙◌, ap}
 use Rattle.labels.specs.Decisions.{at}
-use Prim.Native.Nat.{ℕ}
 use borrow.Author.Rules.{rules}
 use Rattle.state.proofs.Facility.with_marked.Goals as goal
 
