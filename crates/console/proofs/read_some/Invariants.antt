@@ -1,4 +1,5 @@
 -- The tries end.
+use Prim.Native.Nat.{◌-◌}
 use Rattle.console.proofs.read_some.Given as goal
 
 abbrev pub decreases-loop-k : goal.decreases-loop-k

@@ -1,4 +1,5 @@
 -- The reads end.
+use Prim.Native.Nat.{◌-◌}
 use Rattle.console.proofs.read_whole.Given as goal
 
 abbrev pub decreases-loop-k : goal.decreases-loop-k
