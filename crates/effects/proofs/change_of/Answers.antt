@@ -1,4 +1,5 @@
 -- Each number has its change; a number that the match does not name is a request on an object, or none.
+use borrow.Author.Rules.{rules}
 use mathlib.Core.Path.{sym, ◌∙◌, ap}
 use Prim.Native.Nat.{ℕ}
 use Rattle.rules.specs.Effects.{change_of}
@@ -39,10 +40,10 @@ returns-in-21 c = rw (c.in-21.is, c.fresh.ensures)
 pub returns-in_default : goal.returns-in_default
 returns-in_default c =
     let m = c.in_default.in_default-own.rest in
-    let k = acts_on_object _ m.0.0.0.0.0.1 m.0.0.0.0.1 m.0.0.0.1 m.0.0.1 m.0.1 m.1 c.if-request-lt21.true in
+    let k = acts_on_object _ m.0.0.0.0.0.1 m.0.0.0.0.1 m.0.0.0.1 m.0.0.1 m.0.1 m.1 (search rules) in
     rw (c.change_on_object.ensures, k)
 
 pub returns-in-22-to-255 : goal.returns-in-22-to-255
 returns-in-22-to-255 c =
-    let m = c.in_default.in_default-own.rest in
-    rw (is_unknown _ m.0.0.0.0.0.1 m.0.0.0.0.1 m.0.0.0.1 m.0.0.1 m.0.1 m.1 c.if-request-lt21.false)
+    let m = c.in-22-to-255.in_default-own.rest in
+    rw (is_unknown _ m.0.0.0.0.0.1 m.0.0.0.0.1 m.0.0.0.1 m.0.0.1 m.0.1 m.1 (search rules))

@@ -1,0 +1,23 @@
+-- One store, at the place of the marks.
+use Prim.Native.Nat.{ℕ}
+use mathlib.Core.Path.{◌∙◌, ap}
+use lib.ListN.{set}
+use Rattle.in_place.proofs.Changed.{opens_step, opens_first}
+use Rattle.in_place.specs.Layout.{facility_at}
+use Rattle.in_place.proofs.Stored.{padding_marks}
+use Rattle.state.specs.State.{put_opens}
+use Rattle.in_place.proofs.stores.put_marks.Goals as goal
+
+pub returns : goal.returns
+returns c =
+    let c3 = c in
+    let c6 = c3 in
+    let a = c6.args in
+    let m = c.put_in.ensures in (
+      opens_step a.s.now _ (facility_at a.s.now) (facility_at a.s.now).opens _ a.v (opens_first a.s.now) m
+          ∙ ap (λ (n : ℕ). put_opens (facility_at a.s.now) (set (facility_at a.s.now).opens n a.v)) c3.mark_place.ensures,
+      padding_marks a.s.now _ _ _ m,
+    )
+
+pub shape_of-s : goal.shape_of-s
+shape_of-s c = c.put_in.auto.s

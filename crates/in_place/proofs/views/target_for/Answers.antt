@@ -1,0 +1,53 @@
+-- A signal's receiver is read with its owner; for any other request there is none.
+use mathlib.Core.Bool.{Bool, true, false}
+use mathlib.Core.Path.{◌≡◌, ◌∙◌, ap}
+use Rattle.rules.specs.declared.Target.{Target}
+use Rattle.rules.specs.Modules.{target_of}
+use Rattle.rules.specs.Requests.{action_of, is_send_signal}
+use Rattle.state.specs.declared.Call.{Call}
+use Rattle.state.specs.declared.Facility.{Facility}
+use Rattle.state.specs.declared.Process.{Process}
+use Rattle.state.specs.State.{no_process, object_of, opens_of, user_of}
+use Rattle.in_place.specs.Layout.{facility_at}
+use Rattle.in_place.specs.Seen.{no_user, target_asked}
+use Rattle.in_place.proofs.views.target_for.Goals as goal
+
+module _ (f : Facility) (c : Call) (t : Target) (b : Bool) (d : b ≡ is_send_signal (action_of c.request)) where
+  signal : b ≡ true → t ≡ target_of f c.process c.target → t ≡ target_asked (action_of c.request) f c
+  signal h e = rw (← d, h) e
+
+  other : b ≡ false
+      → t ≡ record { receiver = no_process; object = object_of f c.target; opens = opens_of f c.process c.target; owner = no_user }
+      → t ≡ target_asked (action_of c.request) f c
+  other h e = rw (← d, h) e
+
+pub returns-then-is_send_signal : goal.returns-then-is_send_signal
+returns-then-is_send_signal c =
+    let receiver = c in
+    let asked = receiver in
+    let opens = asked in
+    let object = opens in
+    let a = object.args in
+    let f = facility_at a.s.now in
+    signal f a.c _ _ asked.is_send_signal.ensures receiver.if-is_send_signal.true
+    (λ i. record {
+      receiver = receiver.process_in-receiver.ensures i;
+      object = object.object_in-object.ensures i;
+      opens = opens.opens_in-opens.ensures i;
+      owner = (c.user_in.ensures ∙ ap (λ (r : Process). user_of f r.owner) receiver.process_in-receiver.ensures) i;
+    })
+
+pub returns : goal.returns
+returns c =
+    let none = c in
+    let asked = none in
+    let opens = asked in
+    let object = opens in
+    let a = object.args in
+    other (facility_at a.s.now) a.c _ _ asked.is_send_signal.ensures none.if-is_send_signal.false
+    (λ i. record {
+      receiver = none.none.ensures i;
+      object = object.object_in-object.ensures i;
+      opens = opens.opens_in-opens.ensures i;
+      owner = c.no_user.ensures i;
+    })

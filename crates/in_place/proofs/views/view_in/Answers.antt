@@ -1,0 +1,25 @@
+-- Each part of the view is what its reader gives of the bytes.
+use Rattle.in_place.specs.Layout.{facility_at}
+use mathlib.Core.Path.{◌∙◌, ap}
+use Rattle.state.specs.declared.Process.{Process}
+use Rattle.state.specs.State.{user_of}
+use Rattle.in_place.proofs.views.view_in.Goals as goal
+
+pub returns : goal.returns
+unfolding facility_at
+returns c =
+    let switches = c in
+    let target = switches in
+    let owner = target in
+    let caller = owner in
+    let looked = caller in
+    let s = looked.args.s.now in
+    λ i. record {
+      switches = switches.switches_in-switches.ensures i;
+      users = c.byte_in.ensures i;
+      entered = c.byte_in-2.ensures i;
+      caller = caller.process_in-caller.ensures i;
+      owner = (owner.user_in-owner.ensures ∙ ap (λ (r : Process). user_of (facility_at s) r.owner) caller.process_in-caller.ensures) i;
+      target = target.target_for-target.ensures i;
+      looked = looked.looked_for-looked.ensures i;
+    }

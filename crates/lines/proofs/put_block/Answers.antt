@@ -1,0 +1,27 @@
+-- The text `block_text first start calls` is stored, and `r.facility ≡ facility_after first start calls`, and `length ..`.
+use mathlib.Core.List.{◌++◌}
+use lib.ListN.{length-append}
+use native.Mathlib.Omega.{arith}
+use Rattle.lines.specs.Blocks.{lines_of}
+use Rattle.lines.proofs.Blocks.{short_most}
+use Rattle.rules.specs.Lines.{short_line}
+use Rattle.text.specs.Laws.Stored.{then, counts}
+use Rattle.lines.proofs.put_block.Goals as goal
+
+pub returns : goal.returns
+returns c =
+    let c7 = c in
+    let c11 = c7 in
+    let a = c11.args in
+    let l = c7.put_lines-lines.ensures in
+    let t = lines_of a.first a.start a.calls.now in
+    let s = short_line a.calls.now in
+    let n = length-append t s in
+    let m = short_most a.calls.now in
+    let z = then a.out.now _ _ 0 _ _ t s l.stored c.put_short-length.ensures in
+    record {
+      stored = z;
+      facility_value = l.facility_value;
+      calls_len_bound = (let b = l.calls_len_bound in omega arith);
+      prefix_len = counts a.out.now _ (t ++ s) 0 _ z;
+    }

@@ -1,0 +1,34 @@
+-- The text `outcome_text index c outcome` is stored, and `number_of outcome < 256`, and `code (answers_of outcome).combined < 256`.
+use Rattle.answers.specs.declared.Answers.{Answers}
+use Prim.Native.Nat.{ℕ}
+use mathlib.Core.Path.{◌≡◌, ◌∙◌, ap}
+use mathlib.Core.List.{◌++◌}
+use borrow.Author.Rules.{rules}
+use Rattle.lines.specs.Texts.{call_text, outcome_text}
+use Rattle.rules.specs.Lines.{field}
+use Rattle.answers.specs.Answers.{code}
+use Rattle.answers.specs.Outcomes.{number_of, answers_of}
+use Rattle.text.specs.Laws.Stored.{then, as_text}
+use Rattle.lines.proofs.put_outcome.Goals as goal
+
+pub returns : goal.returns
+returns c =
+    let c6 = c in
+    let c7 = c6 in
+    let c11 = c7 in
+    let c13 = c11 in
+    let c14 = c13 in
+    let c16 = c14 in
+    let a = c16.args in
+    let n = c7.number in
+    let k = c13.code-code in
+    let d : k.result ≡ code (answers_of a.outcome).combined = k.ensures ∙ ap (λ (x : Answers). code x.combined) c14.answers-answers.ensures in
+    let s0 = then a.out.now _ _ a.place _ _ (call_text a.index a.c) (field n.result) c11.put_call-p1.ensures c6.put_byte-p2.ensures in
+    let s1 = then a.out.now _ _ a.place _ _ (call_text a.index a.c ++ field n.result) (field k.result) s0
+    c.put_byte.ensures in record {
+      stored = as_text a.out.now _ _ (outcome_text a.index a.c a.outcome) a.place _
+          (ap (λ (x : ℕ). call_text a.index a.c ++ field x ++ field k.result) n.ensures
+          ∙ ap (λ (x : ℕ). call_text a.index a.c ++ field (number_of a.outcome) ++ field x) d) s1;
+      outcome_bound = search (rules, n.ensures);
+      outcome_bound_2 = search (rules, d);
+    }

@@ -1,0 +1,18 @@
+-- The conditions, one behind the other.
+use mathlib.Core.List.{[], ◌∷◌}
+use Rattle.rules.specs.Text.{ascii}
+use Rattle.names.specs.Reasons.{text_if, role_reasons}
+use Rattle.text.specs.Laws.Stores.{end, ◌▸◌, stores}
+use Rattle.names.proofs.put_role_reasons.Goals as goal
+
+pub returns : goal.returns
+unfolding role_reasons
+returns c =
+    let c3 = c in
+    let c2 = c3 in
+    let c1 = c2 in
+    let a = c1.args in
+    let w = a.w in
+    stores a.out.now a.place (text_if w.nocategory (ascii " (category unset)"))
+    (text_if w.category (ascii " (category not of the role)") ∷ text_if w.datatype (ascii " (security information, not security officer)") ∷ [])
+    (c1.put_reason-p.ensures ▸ c2.put_reason-p-2.ensures ▸ c3.put_reason.ensures ▸ end)

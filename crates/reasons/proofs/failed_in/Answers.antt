@@ -1,0 +1,11 @@
+-- The result is `failed_in k v c`.
+use Rattle.labels.specs.Decisions.{◌and◌, ◌or◌}
+use Rattle.reasons.specs.Reasons.{category_unset, category_failed, data_type_failed, failed_in}
+use Rattle.reasons.proofs.failed_in.Goals as goal
+
+pub returns : goal.returns
+unfolding category_unset category_failed data_type_failed failed_in ◌and◌ ◌or◌
+returns c =
+    let c5 = c in
+    let c11 = c5 in
+    rw (c.flag_failed.ensures, c5.alters.ensures, c5.class_in.ensures, c11.needs_object-target.ensures, c11.mac_failed-m.ensures)

@@ -1,0 +1,11 @@
+-- The number is that of the outcome, which is query's.
+use Rattle.questions.specs.Laws.Calls.{enforced_outcome}
+use Rattle.reasons.specs.Proofs.Found.{failed_found}
+use Rattle.reasons.proofs.failed_of.Goals as goal
+
+pub returns : goal.returns
+returns c =
+    let c2 = c in
+    let v = c2.view_of-v.ensures in
+    let a = c2.args in
+    failed_found a.f a.c _ _ _ _ v (enforced_outcome a.f a.c _ _ c2.outcome_in-o.ensures v) c.number.ensures c.failed_by.ensures

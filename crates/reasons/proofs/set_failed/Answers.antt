@@ -1,0 +1,9 @@
+-- The result is `set_failed l r clr`.
+use Rattle.reasons.specs.Reasons.{set_failed}
+use Rattle.reasons.proofs.set_failed.Goals as goal
+
+pub returns : goal.returns
+unfolding set_failed
+returns c =
+    let c2 = c in
+    rw (c.unless.ensures, c.at_most-cleared.ensures, c2.at_most-under.ensures, c2.at_most-over.ensures)

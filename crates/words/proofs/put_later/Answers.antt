@@ -1,0 +1,26 @@
+-- After a signal the receiver is told, after a cloning the clone, and else nothing.
+use mathlib.Core.List.{[], ◌∷◌}
+use Rattle.labels.specs.Decisions.{◌or◌}
+use Rattle.rules.specs.Text.{ascii}
+use Rattle.words.specs.Patterns.{filled}
+use Rattle.words.specs.Sentences.{process_text}
+use Rattle.text.specs.Laws.Stores.{end, ◌▸◌, stores}
+use Rattle.words.proofs.put_later.Goals as goal
+
+pub returns-then-is_send_signal-is_clone : goal.returns-then-is_send_signal-is_clone
+unfolding ◌or◌
+returns-then-is_send_signal-is_clone c =
+    let c5 = c in
+    let clone = c5 in
+    let signal = clone in
+    let a = signal.args in
+    rw (← clone.is_clone.ensures, ← signal.is_send_signal.ensures, c5.if-is_send_signal-is_clone.true)
+    (stores a.out.now a.place (filled (ascii "; process # then ") (a.c.target ∷ [])) (process_text a.r a.u ∷ [])
+    (c.put_one-p.ensures ▸ c.put_process.ensures ▸ end))
+
+pub returns : goal.returns
+unfolding ◌or◌
+returns c =
+    let c3 = c in
+    let clone = c3 in
+    rw (← clone.is_clone.ensures, ← clone.is_send_signal.ensures, c3.if-is_send_signal-is_clone.false) c.put_nothing.ensures

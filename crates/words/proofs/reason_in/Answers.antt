@@ -1,0 +1,13 @@
+-- The lists that are lent tell what the facility does.
+use mathlib.Core.Path.{◌∙◌}
+use Rattle.state.specs.State.{objects_in}
+use Rattle.flags.specs.Laws.{source_lists}
+use Rattle.words.proofs.Parts.{reason_found}
+use Rattle.words.proofs.reason_in.Goals as goal
+
+pub returns : goal.returns
+returns c =
+    let failed = c in
+    let a = failed.args in
+    reason_found a.f a.n a.v a.c _ _ failed.failed_by-failed.ensures
+    (c.source_at-source.ensures ∙ source_lists (objects_in a.f) a.c.target failed.failed_by-failed.result.flag)

@@ -1,0 +1,20 @@
+-- The number, what failed, and what was made.
+use mathlib.Core.List.{[], ◌∷◌}
+use Rattle.answers.specs.Outcomes.{number_of, object_number_of}
+use Rattle.names.specs.Reasons.{failed_text}
+use Rattle.rules.specs.Text.{ascii}
+use Rattle.words.specs.Patterns.{filled}
+use Rattle.words.specs.Sentences.{made_text}
+use Rattle.text.specs.Laws.Stores.{end, ◌▸◌, stores}
+use Rattle.words.proofs.short.put_outcome.Goals as goal
+
+pub returns : goal.returns
+returns c =
+    let object = c in
+    let c2 = object in
+    let c1 = c2 in
+    let number = c1 in
+    let a = number.args in
+    stores a.out.now a.place (filled (ascii ": # !") (number_of a.o ∷ number_of a.o ∷ []))
+    (failed_text a.r.failed a.r.source ∷ made_text (object_number_of a.o) ∷ [])
+    (rw number.number-n.ensures at c1.put_filled-p.ensures ▸ c2.put_failed-p.ensures ▸ rw object.object.ensures at c.put_made.ensures ▸ end)

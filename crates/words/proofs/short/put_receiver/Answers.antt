@@ -1,0 +1,28 @@
+-- After a signal or a cloning the target is told where it is not what it was, and else nothing.
+use mathlib.Core.List.{[], ◌∷◌}
+use Rattle.labels.specs.Decisions.{◌and◌, ◌or◌}
+use Rattle.rules.specs.Text.{ascii}
+use Rattle.words.specs.Patterns.{filled}
+use Rattle.words.specs.Short.{labels_text}
+use Rattle.text.specs.Laws.Stores.{end, ◌▸◌, stores}
+use Rattle.words.proofs.short.put_receiver.Goals as goal
+
+pub returns-then-signal-clone : goal.returns-then-signal-clone
+unfolding ◌and◌ ◌or◌
+returns-then-signal-clone c =
+    let c5 = c in
+    let same = c5 in
+    let clone = same in
+    let signal = clone in
+    let a = signal.args in
+    rw (← signal.is_send_signal-signal.ensures, ← clone.is_clone-clone.ensures, ← same.same_process.ensures, c5.if-signal-clone.true)
+    (stores a.out.now a.place (filled (ascii "; process # then ") (a.c.target ∷ [])) (labels_text a.x a.u ∷ [])
+    (c.put_one-p.ensures ▸ c.put_labels.ensures ▸ end))
+
+pub returns : goal.returns
+unfolding ◌and◌ ◌or◌
+returns c =
+    let c3 = c in
+    let same = c3 in
+    let clone = same in
+    rw (← clone.is_send_signal-signal.ensures, ← clone.is_clone-clone.ensures, ← same.same_process.ensures, c3.if-signal-clone.false) c.put_nothing.ensures

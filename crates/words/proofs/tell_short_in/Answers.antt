@@ -1,0 +1,17 @@
+-- The line is of what is told of the call, and the bytes become those of the facility after it.
+use mathlib.Core.Path.{ap}
+use Rattle.in_place.specs.Layout.{facility_at}
+use Rattle.text.specs.Laws.Stored.{as_text}
+use Rattle.words.specs.Short.{short_text, short_sentence}
+use Rattle.words.proofs.tell_short_in.Goals as goal
+
+pub returns : goal.returns
+returns c =
+    let told = c in
+    let a = told.args in
+    let e = told.told_in.ensures in
+    let t = short_sentence a.index (facility_at a.s.now) a.c in
+    record {
+      stored = as_text a.out.now _ _ t a.place _ (ap short_text e.value) c.put_short.ensures;
+      becomes = e.becomes;
+    }
