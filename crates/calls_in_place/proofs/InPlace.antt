@@ -55,6 +55,8 @@ listed x z (c ∷ cs) (o ∷ os) (next w y v d p ds ps M N) f e =
       account = L.account
           ∙ ap (λ (l : Ledger). ledger_after l (history (after f c) cs)) (M.account ∙ ap (step_of x.account c) (made_accepted f c o q));
     }
+listed x z [] (o ∷ os) x6 f e = elim x6 [ ]
+listed x z (c ∷ cs) [] x6 f e = elim x6 [ ]
 
 -- one call more, refused
 counts' : (x : Kept) (c : Call) (o : Outcome) (y : Kept) → CallMade x c o y → denies (number_of o) ≡ true

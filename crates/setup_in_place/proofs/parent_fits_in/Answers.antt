@@ -6,4 +6,4 @@ use Rattle.setup_in_place.proofs.parent_fits_in.Goals as goal
 pub returns : goal.returns
 returns c =
     let a = c.args in
-    c.parent_fits.ensures ∙ (λ i. parent_fits_in (c.kinds_of.ensures i) (c.Entered-of.ensures i) a.r)
+    c.parent_fits.ensures ∙ (λ i. parent_fits_in (c.kinds_of.ensures i) (c.entered_of.ensures i) a.r)

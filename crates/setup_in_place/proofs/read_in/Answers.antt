@@ -9,7 +9,9 @@ returns-then-not-allowed_length c =
     let t = c in
     let a = t.args in
     let r = c.refused_in.ensures in
-    as_read a.s.now _ _ _ _ (refused_length_law _ (sym t.allowed_length.ensures ∙ t.if-not-allowed_length.true)) r.value r.becomes
+    let q =
+    as_read a.s.now _ _ _ _ (refused_length_law _ (sym t.allowed_length.ensures ∙ t.if-not-allowed_length.true)) r.value r.becomes in
+    record { value = q.0; becomes = q.1 }
 
 pub read_records_in-requires : goal.read_records_in-requires
 read_records_in-requires c =
@@ -21,4 +23,6 @@ returns c =
     let t = c in
     let a = t.args in
     let r = c.read_records_in.ensures in
-    as_read a.s.now _ _ _ _ (allowed_records _ (sym t.allowed_length.ensures ∙ t.if-not-allowed_length.false)) r.value r.becomes
+    let q =
+    as_read a.s.now _ _ _ _ (allowed_records _ (sym t.allowed_length.ensures ∙ t.if-not-allowed_length.false)) r.value r.becomes in
+    record { value = q.0; becomes = q.1 }

@@ -13,21 +13,6 @@ use Rattle.setup.specs.Progress.{number_after}
 use Rattle.setup_in_place.proofs.AsRead.{as_read}
 use Rattle.setup_in_place.proofs.read_records_in.Goals as goal
 
--- the number by the answers of all four questions
-number_told : (c : tie.After-record-number invariant-loop decreases-loop)
-    → let this = c in let l = this.loop-k in
-    c.record_number-number.result ≡ number_by l.before (facility_at l.s) this.record_of-r.result
-number_told c =
-    let this = c in
-    let l = this.loop-k in
-    c.record_number-number.ensures ∙ ap (λ (b : Bool). number_after l.before b this.record_of-r.result) c.parent_fits_in.ensures
-
--- the test of the loop is further away than a search goes
-add-k : tie.Need-overflow-add-k invariant-loop decreases-loop
-add-k c =
-    let t = c in
-    search (rules, t.loop-k-test.true, t.ranges)
-
 pub loop-k-init : goal.loop-k-init
 loop-k-init c =
     let a = c.args in
@@ -39,13 +24,16 @@ returns-then-number-ne0 c =
     let this = number in
     let l = this.loop-k in
     let a = this.args in
-    let e = number_told number in
+    let e : c.record_number-number.result ≡ number_by l.before (facility_at l.s) c.record_of-r.result
+    = c.record_number-number.ensures ∙ ap (λ (b : Bool). number_after l.before b c.record_of-r.result) c.parent_fits_in.ensures in
     let r = c.refused_in.ensures in
+    let q =
     as_read a.s.now _ _ _ _
     (ap (λ (n : ℕ). refused_setup n l.k) e
     ∙ from_stops a.bytes.now a.count l.k (facility_at l.s) l.before _ this.loop-k-test.true l.invariant.1
     (this.record_of-r.ensures ∙ record_lent a.bytes.now (l.k * 8)) (λ z. c.if-number-ne0.true (e ∙ z)))
-    r.value (r.becomes.0, r.becomes.1 ∙ l.invariant.2)
+    r.value (r.becomes.0, r.becomes.1 ∙ l.invariant.2) in
+    record { value = q.0; becomes = q.1 }
 
 pub loop-k-smaller : goal.loop-k-smaller
 loop-k-smaller c = omega (arith, c.loop-k-test.true)
@@ -57,7 +45,9 @@ loop-k-preserved c =
     let l = this.loop-k in
     let a = this.args in
     let entered = c.enter_record_in.ensures in
-    let z = sym (number_told number) ∙ c.if-number-ne0.false in (
+    let e : c.record_number-number.result ≡ number_by l.before (facility_at l.s) c.record_of-r.result
+    = c.record_number-number.ensures ∙ ap (λ (b : Bool). number_after l.before b c.record_of-r.result) c.parent_fits_in.ensures in
+    let z = sym e ∙ c.if-number-ne0.false in (
       omega (arith, this.loop-k-test.true),
       subst₂ (From a.bytes.now a.count (l.k + 1)) (sym entered.0) (sym c.progress_after-before.ensures)
           (from_goes_on a.bytes.now a.count l.k (facility_at l.s) l.before _ this.loop-k-test.true l.invariant.1
@@ -70,6 +60,8 @@ returns c =
     let l = c.loop-k in
     let x = c in
     let a = x.args in
+    let q =
     as_read a.s.now _ _ _ _
     (from_ends a.bytes.now a.count l.k (facility_at l.s) l.before x.requires.0 c.loop-k-test.false l.invariant.1) refl
-    (refl, l.invariant.2)
+    (refl, l.invariant.2) in
+    record { value = q.0; becomes = q.1 }
