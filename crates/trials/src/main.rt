@@ -13,7 +13,7 @@ use matter::Ledger;
 use state::Facility;
 use std::io::{Input, Print, Read};
 
-// What cannot be written is missed in what was written.
+// Writes a text. Where that fails it is missing in the output, which is compared.
 fn tell<R: Print>(rt: &R, text: &[u8]) {
     let _ = rt.write_all(text);
 }
