@@ -24,14 +24,14 @@ combine NotGranted Undefined = Undefined
 combine Undefined b = Undefined
 
 -- the modules' answers combined, MAC first
-abbrev pub combineAll : Answer → Answer → Answer → Answer → Answer
-combineAll mac fc sim ff = combine mac (combine fc (combine sim ff))
+abbrev pub combine_all : Answer → Answer → Answer → Answer → Answer
+combine_all mac fc sim ff = combine mac (combine fc (combine sim ff))
 
-abbrev pub isNotGranted : Answer → Bool
-isNotGranted a = eqb (code a) 2
+abbrev pub is_not_granted : Answer → Bool
+is_not_granted a = eqb (code a) 2
 
-abbrev pub isUndefined : Answer → Bool
-isUndefined a = eqb (code a) 3
+abbrev pub is_undefined : Answer → Bool
+is_undefined a = eqb (code a) 3
 
 -- granted where a test holds, else not granted
 unfoldable pub grant : Bool → Answer

@@ -2,4 +2,3 @@
 pub mod Answers
 pub mod Outcomes
 pub mod Table47
-pub mod Laws

@@ -6,7 +6,7 @@ pub use Rattle.answers.specs.declared.SetupOutcome.{SetupOutcome}
 pub use Rattle.answers.specs.declared.WriteOutcome.{WriteOutcome}
 use Rattle.std.specs.Prelude.{ℕ, Bool, cond, eqb}
 use Rattle.labels.specs.Decisions.{◌or◌}
-use Rattle.answers.specs.Answers.{NotCared, Answer, code, combineAll}
+use Rattle.answers.specs.Answers.{NotCared, Answer, code, combine_all}
 use Rattle.answers.specs.declared.Outcome.TheVariants.{Accepted, Denied, Refused}
 use Rattle.answers.specs.declared.SetupOutcome.TheVariants.{Accepted as SetupAccepted, Refused as SetupRefused}
 use Rattle.answers.specs.declared.WriteOutcome.TheVariants.{Written, NoRoom}
@@ -20,7 +20,7 @@ not_cared = record { mac = NotCared; fc = NotCared; sim = NotCared; ff = NotCare
 
 -- the answers of the four modules, with their combination
 unfoldable pub answers_from : Answer → Answer → Answer → Answer → Answers
-answers_from m f s g = record { mac = m; fc = f; sim = s; ff = g; combined = combineAll m f s g }
+answers_from m f s g = record { mac = m; fc = f; sim = s; ff = g; combined = combine_all m f s g }
 
 -- what a call with this number, these answers and this object comes to
 unfoldable pub outcome_of : ℕ → Answers → ℕ → Outcome

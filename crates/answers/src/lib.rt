@@ -2,7 +2,7 @@
 #![tactic(auto)]
 
 ghost use Rattle.std.specs.Prelude.{◌≡◌};
-ghost use Rattle.answers.specs.Answers.{code, combine, isNotGranted, isUndefined, grant};
+ghost use Rattle.answers.specs.Answers.{code, combine, is_not_granted, is_undefined, grant};
 ghost use Rattle.answers.specs.Outcomes.{answers_from, outcome_of, number_of, answers_of, object_number_of, outcome_numbers, denies};
 
 // The object number that a call has which gives none.
@@ -80,13 +80,13 @@ impl Answer {
     }
 
     pub fn is_not_granted(self) -> bool
-        ensures { result ≡ isNotGranted self }
+        ensures { result ≡ is_not_granted self }
     {
         self.code() == 2
     }
 
     pub fn is_undefined(self) -> bool
-        ensures { result ≡ isUndefined self }
+        ensures { result ≡ is_undefined self }
     {
         self.code() == 3
     }

@@ -16,9 +16,9 @@ use Rattle.rules.specs.Histories.{run, outcomes, history}
 use Rattle.rules.specs.Questions.{number}
 use Rattle.rules.specs.Matter.{holds}
 use Rattle.rules.specs.Setup.{fresh}
-use Rattle.rules.specs.Proofs.OnlyWhen.{only_when_after}
-use Rattle.rules.specs.Proofs.Refusals.{refusals}
-use Rattle.rules.specs.Proofs.Signals.{signals}
+use Rattle.rules.proofs.OnlyWhen.{only_when_after}
+use Rattle.rules.proofs.Refusals.{refusals}
+use Rattle.rules.proofs.Signals.{signals}
 use Rattle.matter.specs.declared.Ledger.{Ledger}
 use Rattle.matter.specs.LedgerSteps.{start_of, step_of, held_by, account_of}
 use Rattle.matter.specs.AfterCalls.{ledger_after, ledger_of}

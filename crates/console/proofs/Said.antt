@@ -2,7 +2,7 @@
 use lib.IntN.{ℤ, pos, negsuc}
 use mathlib.Core.Path.{◌≡◌, refl, sym}
 use mathlib.Core.Bool.{true, false}
-use Rattle.labels.specs.Laws.Decisions.{clash}
+use Rattle.labels.proofs.Laws.Decisions.{clash}
 use Rattle.console.specs.Files.{bytes_said, failure_said, more_said}
 
 -- where there may be more nothing failed; a failure brings nothing, and ends the input

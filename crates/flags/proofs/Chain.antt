@@ -8,12 +8,12 @@ use lib.Dec.{eqb}
 use native.Mathlib.Omega.{arith}
 use borrow.Author.Tests.{lt-ltb, le-leb, ne_eqb, eq-eqb}
 use Rattle.labels.specs.Decisions.{◌and◌, at, on}
-use Rattle.labels.specs.Laws.Decisions.{by-test, by-eq}
-use Rattle.labels.specs.Laws.Bits.{or_assoc, and_or, and_again}
+use Rattle.labels.proofs.Laws.Decisions.{by-test, by-eq}
+use Rattle.labels.proofs.Laws.Bits.{or_assoc, and_or, and_again}
 use Rattle.state.specs.State.{Objects}
 use Rattle.answers.specs.Outcomes.{no_object}
 use Rattle.rules.specs.FileFlags.{add_inherited, has, without_no_delete, flags_of, parent_of, has_parent, inherits, effective, flag_source}
-use Rattle.rules.specs.Proofs.Flags.{inheriting, giver_before, parent_some, effective_is, source_is}
+use Rattle.rules.proofs.Flags.{inheriting, giver_before, parent_some, effective_is, source_is}
 use Rattle.flags.specs.Lists.{inherits_from}
 
 -- whom t inherits from: none without a parent or with a later one, else by its flag and the parent's life

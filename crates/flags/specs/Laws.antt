@@ -3,7 +3,7 @@ use Rattle.std.specs.Prelude.{ℕ, suc, ◌≡◌, refl}
 use Rattle.std.proofs.Common.{arith}
 use Rattle.state.specs.State.{Objects}
 use Rattle.rules.specs.FileFlags.{effective, flag_source}
-use Rattle.rules.specs.Proofs.Flags.{effective_told, source_told}
+use Rattle.rules.proofs.Flags.{effective_told, source_told}
 use Rattle.flags.specs.Lists.{flagged}
 
 pub effective_lists : (x : Objects) (t : ℕ) → effective (flagged x.lives x.flags x.parents) t ≡ effective x t

@@ -6,22 +6,22 @@ use mathlib.Core.Bool.{true, false, not}
 use lib.ListN.{length}
 use Rattle.state.specs.declared.Facility.{Facility}
 use Rattle.state.specs.State.{trusted_user}
-use Rattle.labels.specs.Laws.Decisions.{by-test, clash}
+use Rattle.labels.proofs.Laws.Decisions.{by-test, clash}
 use Rattle.state.specs.declared.Call.{Call}
 use Rattle.rules.specs.Calls.{after}
 use Rattle.rules.specs.Histories.{run}
 use Rattle.labels.specs.Decisions.{◌and◌, on}
 use Rattle.rules.specs.Setup.{fresh}
 use Rattle.rules.specs.Lines.{calls_of}
-use Rattle.rules.specs.Proofs.OnlyWhen.{only_when_after}
+use Rattle.rules.proofs.OnlyWhen.{only_when_after}
 use Rattle.rules.specs.Flow.{Reaches, Carries}
 use Rattle.rules.specs.Promises.{AcceptedSignal, receiver_owner}
-use Rattle.rules.specs.Proofs.Refusals.{refusals}
-use Rattle.rules.specs.Proofs.Signals.{signals}
+use Rattle.rules.proofs.Refusals.{refusals}
+use Rattle.rules.proofs.Signals.{signals}
 use Rattle.history.specs.Replayed.{replayed, OnlyWhenReplayed, ReachesBytes, CarriesBytes, ExactlyWhenReplayed, PromisedReplayed, one_more_call}
 use Rattle.history.specs.Replayed.{LastCallReplayed}
 use Rattle.rules.specs.Matter.{holds}
-use Rattle.rules.specs.Proofs.ExactlyWhen.{exactly_when}
+use Rattle.rules.proofs.ExactlyWhen.{exactly_when}
 use Rattle.history.specs.CallBytes.{call_bytes}
 use Rattle.history.specs.Laws.CallBytes.{calls_back, calls_joined, four_bytes_law}
 use Rattle.history.specs.Laws.Promised.{promised}

@@ -9,7 +9,7 @@ use Rattle.answers.specs.Outcomes.{denies}
 use Rattle.state.specs.declared.Call.{Call}
 use Rattle.state.specs.declared.Facility.{Facility}
 use Rattle.rules.specs.Calls.{accepted}
-use Rattle.rules.specs.Proofs.Refusals.{refusals}
+use Rattle.rules.proofs.Refusals.{refusals}
 use Rattle.rules.specs.Questions.{in_range, number, number_by}
 use Rattle.rules.specs.Requests.{last_request}
 use Rattle.hvozdalka.specs.declared.SeatedCall.{SeatedCall}

@@ -9,10 +9,10 @@ use lib.Seq.{get_or-set_same, get_or-set_other, ext_get_or}
 use native.Mathlib.Omega.{arith}
 use borrow.Author.Tests.{le-leb, lt-leb, lt-ltb, le-ltb, ltb-true, ltb-false}
 use Rattle.labels.specs.Decisions.{◌and◌, at}
-use Rattle.labels.specs.Laws.Decisions.{and_i, by-eq, by-test}
+use Rattle.labels.proofs.Laws.Decisions.{and_i, by-eq, by-test}
 use Rattle.opens.specs.Laws.Opens.{length_build, at_build}
 use Rattle.opens.specs.Opens.{build}
-use Rattle.rules.specs.Proofs.Sound.{at_zeros}
+use Rattle.rules.proofs.Sound.{at_zeros}
 use Rattle.state.specs.declared.Switches.{Switches}
 use Rattle.state.specs.State.{blank}
 use Rattle.in_place.specs.Layout.{part, size, offset, field_of, facility_of, facility_at, the_mac, the_fc, the_sim, the_ff, the_refusals, the_padding}

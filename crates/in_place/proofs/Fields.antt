@@ -8,7 +8,7 @@ use lib.Seq.{sets, sets-eq, take-add, drop-drop}
 use lib.ListN.{length, drop_of_length-le, take, take-append-drop, drop}
 use native.Mathlib.Omega.{arith}
 use borrow.Author.Tests.{eq-eqb, ne_eqb, ltb-true, ltb-false}
-use Rattle.labels.specs.Laws.Decisions.{by-eq, by-test}
+use Rattle.labels.proofs.Laws.Decisions.{by-eq, by-test}
 use Rattle.in_place.specs.Stores.{store_field, store_in, padding_in, Becomes}
 use Rattle.in_place.specs.Layout.{size, offset, field_of, whole_size, the_refusals, facility_at, the_mac, the_fc, the_sim, the_users, the_entered}
 use Rattle.in_place.specs.Layout.{facility_of, the_opens, the_padding, the_clearances, the_roles, the_trusts, the_lives, the_kinds, the_levels}

@@ -9,7 +9,7 @@ use lib.Seq.{set_out, get_or-set_same, get_or-set_other, ext_get_or}
 use native.Mathlib.Omega.{arith}
 use borrow.Author.Tests.{lt-ltb, le-ltb, eq-eqb, ne_eqb, ltb-true, ltb-false}
 use Rattle.in_place.specs.Stores.{store_in, store_field, padding, padding_in}
-use Rattle.labels.specs.Laws.Decisions.{by-test, by-eq}
+use Rattle.labels.proofs.Laws.Decisions.{by-test, by-eq}
 use Rattle.in_place.specs.Layout.{part, size, offset, field_of, the_opens, the_entered}
 use Rattle.labels.specs.Decisions.{at}
 use Rattle.in_place.proofs.BytesOfParts.{byte_in}

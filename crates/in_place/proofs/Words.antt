@@ -10,7 +10,7 @@ use lib.Seq.{get_or-set_same, get_or-set_other, ext_get_or}
 use native.Mathlib.Omega.{arith}
 use borrow.Author.Tests.{eq-eqb, ne_eqb}
 use Rattle.labels.specs.Decisions.{at}
-use Rattle.labels.specs.Laws.Decisions.{by-eq}
+use Rattle.labels.proofs.Laws.Decisions.{by-eq}
 use Rattle.opens.specs.Laws.Opens.{length_build, at_build}
 use Rattle.state.specs.State.{most_users}
 use Rattle.in_place.specs.Layout.{word_at, words}

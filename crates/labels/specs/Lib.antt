@@ -2,4 +2,3 @@
 pub mod Decisions
 pub mod Labels
 pub mod LabelLaws
-pub mod Laws

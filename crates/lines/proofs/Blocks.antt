@@ -25,7 +25,7 @@ use Rattle.state.specs.declared.Process.{Process}
 use Rattle.state.specs.State.{process_in, process_of}
 use Rattle.lines.specs.Blocks.{lines_of, facility_after, WholeByBlocks}
 use Rattle.rules.specs.Text.{ascii}
-use Rattle.labels.specs.Laws.Decisions.{by-eq}
+use Rattle.labels.proofs.Laws.Decisions.{by-eq}
 
 -- What is left when the calls before byte i are printed: their lines, stored at `place`, make the whole.
 pub record Left (o : List ℕ) (first : ℕ) (f₀ : Facility) (calls : List ℕ) (out : List ℕ) (place index : ℕ) (f : Facility) (i : ℕ) : Type 0 where

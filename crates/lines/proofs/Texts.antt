@@ -16,7 +16,7 @@ use Rattle.text.specs.Laws.Decimals.{byte_short, index_short, level_short}
 use Rattle.answers.specs.declared.Outcome.{Outcome}
 use Rattle.answers.specs.Answers.{code}
 use Rattle.answers.specs.Outcomes.{number_of, answers_of}
-use Rattle.labels.specs.Laws.Decisions.{by-test}
+use Rattle.labels.proofs.Laws.Decisions.{by-test}
 
 -- it is the paper's
 pub line_is : (i : ℕ) (f : Facility) (c : Call)

@@ -9,7 +9,7 @@ use native.Mathlib.Nat.{mul-le-mul_right}
 use native.Mathlib.Omega.{arith}
 use borrow.Author.Tests.{eq-eqb, ne_eqb}
 use Rattle.labels.specs.Decisions.{at}
-use Rattle.labels.specs.Laws.Decisions.{by-test}
+use Rattle.labels.proofs.Laws.Decisions.{by-test}
 use Rattle.names.specs.Tables.{size_in, trimmed, word_at}
 use Rattle.names.specs.Words.{word_in}
 

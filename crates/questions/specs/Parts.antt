@@ -4,7 +4,7 @@ use Rattle.answers.specs.declared.Answer.{Answer}
 use Rattle.state.specs.declared.Call.{Call}
 use Rattle.labels.specs.Decisions.{asked, ask, on, ◌and◌}
 use Rattle.labels.specs.Labels.{top_level}
-use Rattle.answers.specs.Answers.{isNotGranted, isUndefined}
+use Rattle.answers.specs.Answers.{is_not_granted, is_undefined}
 use Rattle.rules.specs.declared.Action.{Action}
 use Rattle.rules.specs.declared.View.{View}
 use Rattle.rules.specs.declared.Runs.{Runs}
@@ -20,8 +20,8 @@ unfoldable pub late_number : Action → View → Call → Answer → ℕ
 late_number k v c a =
     ask (room_for k v c) 10
     (ask (asked (is_set_level k) (leb c.extra top_level)) 11
-    (ask (not (isNotGranted a)) 12
-    (ask (not (isUndefined a)) 13 0)))
+    (ask (not (is_not_granted a)) 12
+    (ask (not (is_undefined a)) 13 0)))
 
 -- questions 8, 6, 7 and 9, and then the later ones
 unfoldable pub object_number : Request → View → Call → ℕ → ℕ

@@ -4,7 +4,7 @@ use Rattle.labels.specs.declared.Label.{Label}
 use Rattle.labels.specs.Decisions.{◌or◌}
 use Rattle.labels.specs.Labels.{join, meet}
 use Rattle.answers.specs.declared.Answers.{Answers}
-use Rattle.answers.specs.Answers.{isNotGranted, isUndefined}
+use Rattle.answers.specs.Answers.{is_not_granted, is_undefined}
 use Rattle.answers.specs.Outcomes.{number_of, answers_of, denies}
 use Rattle.state.specs.declared.Call.{Call}
 use Rattle.state.specs.declared.Facility.{Facility}
@@ -24,12 +24,12 @@ any_failed w = w.unset or mac_refuses w or w.nocategory or w.category or w.datat
 
 -- what failed is what the modules answered
 pub record Told (a : Answers) (w : Failed) : Type 0 where
-  pub unset : isUndefined a.mac ≡ w.unset
-  pub refuses : isNotGranted a.mac ≡ mac_refuses w
-  pub nocategory : isUndefined a.fc ≡ w.nocategory
-  pub category : isNotGranted a.fc ≡ w.category
-  pub datatype : isNotGranted a.sim ≡ w.datatype
-  pub flag : isNotGranted a.ff ≡ not (eqb w.flag 0)
+  pub unset : is_undefined a.mac ≡ w.unset
+  pub refuses : is_not_granted a.mac ≡ mac_refuses w
+  pub nocategory : is_undefined a.fc ≡ w.nocategory
+  pub category : is_not_granted a.fc ≡ w.category
+  pub datatype : is_not_granted a.sim ≡ w.datatype
+  pub flag : is_not_granted a.ff ≡ not (eqb w.flag 0)
 
 -- of a call on a facility
 pub record Explained (f : Facility) (c : Call) : Type 0 where

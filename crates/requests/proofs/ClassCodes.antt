@@ -12,7 +12,7 @@ use Rattle.rules.specs.declared.Class.TheVariants.{Absent, Reads, Writes, Both, 
 use Rattle.requests.specs.ClassCodes.{class_named, digit_right, each, word_right}
 use Rattle.rules.specs.Requests.{class_code, last_request, last_kind, Listed, class_among, files, directories, channels, control_data, list_of, class_of}
 use Rattle.labels.specs.Decisions.{◌and◌}
-use Rattle.labels.specs.Laws.Decisions.{and_l, and_r, by-eq, by-test}
+use Rattle.labels.proofs.Laws.Decisions.{and_l, and_r, by-eq, by-test}
 
 pub named_coded : (k : Class) → class_named (class_code k) ≡ k
 named_coded Absent = refl

@@ -14,8 +14,6 @@ pub mod Text
 pub mod Lines
 pub mod Computed
 pub mod Edges
-pub mod Examples
 pub mod Promises
 pub mod ModulesApart
 pub mod Flow
-pub mod Proofs

@@ -5,7 +5,7 @@ use Rattle.rules.specs.Types.{Call, Facility}
 use Rattle.labels.specs.Decisions.{◌and◌, ◌or◌, asked, ask, on}
 use Rattle.labels.specs.Labels.{top_level}
 use Rattle.opens.specs.Opens.{most_processes, most_objects, reading, writing}
-use Rattle.answers.specs.Answers.{isNotGranted, isUndefined}
+use Rattle.answers.specs.Answers.{is_not_granted, is_undefined}
 use Rattle.rules.specs.Requests.{Action, last_request, action_of, is_absent, is_no_condition, is_login, is_clone, is_send_signal, is_set_level, is_create}
 use Rattle.rules.specs.Requests.{needs_object, read_request, write_request, last_kind}
 use Rattle.rules.specs.Modules.{View, view_of, class_in, answers}
@@ -53,8 +53,8 @@ number_by k v c =
     (ask (asked (needs_object k c.extra) (asked (is_no_condition (class_in v c)) (open_for v c))) 9
     (ask (room_for k v c) 10
     (ask (asked (is_set_level k) (leb c.extra top_level)) 11
-    (ask (not (isNotGranted (answers k v c).combined)) 12
-    (ask (not (isUndefined (answers k v c).combined)) 13 0))))))))))))
+    (ask (not (is_not_granted (answers k v c).combined)) 12
+    (ask (not (is_undefined (answers k v c).combined)) 13 0))))))))))))
 
 -- the number of a call
 abbrev pub number : Facility → Call → ℕ

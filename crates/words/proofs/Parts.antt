@@ -10,7 +10,7 @@ use Rattle.rules.specs.declared.View.{View}
 use Rattle.rules.specs.Modules.{view_of}
 use Rattle.rules.specs.Calls.{after, query}
 use Rattle.rules.specs.Questions.{number}
-use Rattle.rules.specs.Proofs.Refusals.{query_number}
+use Rattle.rules.proofs.Refusals.{query_number}
 use Rattle.reasons.specs.declared.Failed.{Failed}
 use Rattle.reasons.specs.Reasons.{failed_by}
 use Rattle.names.specs.Reasons.{source_of}

@@ -9,7 +9,7 @@ use lib.Seq.{drop-cons, drop-length, length-sets}
 use native.Mathlib.Omega.{arith}
 use borrow.Author.Tests.{ne_eqb}
 use Rattle.labels.specs.Decisions.{◌and◌, ◌or◌, at}
-use Rattle.labels.specs.Laws.Decisions.{by-test}
+use Rattle.labels.proofs.Laws.Decisions.{by-test}
 use Rattle.text.specs.Stored.{Stored}
 use Rattle.text.specs.Laws.Stored.{then, as_text}
 use Rattle.words.specs.Patterns.{said, signs, filled_from}

@@ -7,7 +7,7 @@ use native.Mathlib.Numerals.{add-one}
 use borrow.Author.Tests.{eq-eqb, ne_eqb}
 use Rattle.labels.specs.Decisions.{at}
 use Rattle.rules.specs.Setup.{new_number}
-use Rattle.rules.specs.Proofs.Parents.{new_more, new_gone}
+use Rattle.rules.proofs.Parents.{new_more, new_gone}
 use Rattle.writer.specs.Writing.{lives_only}
 
 pub number_begins : (l : List ℕ) → 0 ≡ new_number (lives_only l) 0

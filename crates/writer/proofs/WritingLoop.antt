@@ -12,11 +12,11 @@ use borrow.Author.Tests.{le-leb, lt-leb, eq-eqb, ne_eqb}
 use Rattle.rules.specs.declared.SetupRecord.{SetupRecord}
 use Rattle.writer.specs.Writing.{section_of, put_one, put_all, Stored, live_record, lives_only}
 use Rattle.labels.specs.Decisions.{on}
-use Rattle.labels.specs.Laws.Decisions.{by-test}
+use Rattle.labels.proofs.Laws.Decisions.{by-test}
 use Rattle.rules.specs.Setup.{bytes_of, listed, object_record, with_parent, renumbered, bytes_of_all, write_setup, setup_records, setup_bytes}
-use Rattle.rules.specs.Proofs.Parents.{parent_same}
-use Rattle.rules.specs.Proofs.Bytes.{map-append, map-length, bytes_length}
-use Rattle.rules.specs.Proofs.Listed.{listed_length}
+use Rattle.rules.proofs.Parents.{parent_same}
+use Rattle.rules.proofs.Bytes.{map-append, map-length, bytes_length}
+use Rattle.rules.proofs.Listed.{listed_length}
 use Rattle.state.specs.declared.Object.{Object}
 use Rattle.state.specs.State.{Objects}
 use Rattle.opens.specs.Laws.Loops.{sets_append}

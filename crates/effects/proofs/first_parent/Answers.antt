@@ -2,7 +2,7 @@
 use Prim.Native.Nat.{◌<◌}
 use borrow.Author.Rules.{rules}
 use borrow.Author.Tests.{ltb-true}
-use Rattle.labels.specs.Laws.Decisions.{and_r}
+use Rattle.labels.proofs.Laws.Decisions.{and_r}
 use Rattle.opens.specs.Opens.{most_objects}
 use Rattle.labels.specs.Decisions.{◌and◌}
 use Rattle.rules.specs.Effects.{first_parent}

@@ -1,7 +1,7 @@
 -- The facility after a call is the one after what the call changes.
 use Rattle.std.specs.Prelude.{ℕ, ◌≡◌, eqb}
 use Rattle.std.proofs.Common.{◌∙◌, ap}
-use Rattle.labels.specs.Laws.Decisions.{by-test}
+use Rattle.labels.proofs.Laws.Decisions.{by-test}
 use Rattle.answers.specs.Outcomes.{denies, number_of}
 use Rattle.answers.specs.declared.Outcome.{Outcome}
 use Rattle.state.specs.declared.Call.{Call}
@@ -11,7 +11,7 @@ use Rattle.rules.specs.Modules.{view_of}
 use Rattle.rules.specs.Questions.{number}
 use Rattle.rules.specs.Effects.{effect_from}
 use Rattle.rules.specs.Calls.{after, accepted, after_refusal, query}
-use Rattle.rules.specs.Proofs.Refusals.{query_number}
+use Rattle.rules.proofs.Refusals.{query_number}
 use Rattle.rules.specs.declared.View.{View}
 use Rattle.effects.specs.Changes.{change_by}
 

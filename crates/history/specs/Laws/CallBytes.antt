@@ -17,7 +17,7 @@ use Rattle.rules.specs.Setup.{read_setup}
 use Rattle.answers.specs.Outcomes.{number_of}
 use Rattle.rules.specs.declared.Enforced.{Enforced}
 use Rattle.questions.specs.Laws.Calls.{enforced_accepted}
-use Rattle.labels.specs.Laws.Decisions.{and_l, and_r, and_i}
+use Rattle.labels.proofs.Laws.Decisions.{and_l, and_r, and_i}
 use Rattle.rules.specs.Flow.{all_four_bytes}
 
 -- past the end every byte of it is 0

@@ -3,12 +3,12 @@ use Rattle.std.specs.Prelude.{List, ℕ}
 use Rattle.state.specs.declared.Call.{Call}
 use Rattle.rules.specs.Histories.{run}
 use Rattle.rules.specs.Setup.{fresh}
-use Rattle.rules.specs.Proofs.Counters.{counters_count}
-use Rattle.rules.specs.Proofs.MovesCounted.{moves}
-use Rattle.rules.specs.Proofs.Inheritance.{inheritance}
-use Rattle.rules.specs.Proofs.RoundTrips.{round_trips}
-use Rattle.rules.specs.Proofs.ObjectNumbers.{object_numbers}
-use Rattle.rules.specs.Proofs.LabelsStay.{labels_stay}
+use Rattle.rules.proofs.Counters.{counters_count}
+use Rattle.rules.proofs.MovesCounted.{moves}
+use Rattle.rules.proofs.Inheritance.{inheritance}
+use Rattle.rules.proofs.RoundTrips.{round_trips}
+use Rattle.rules.proofs.ObjectNumbers.{object_numbers}
+use Rattle.rules.proofs.LabelsStay.{labels_stay}
 use Rattle.history.specs.Promised.{Promised}
 
 pub promised : (s : List ℕ) (cs : List Call) → Promised s cs (run (fresh s) cs)

@@ -10,21 +10,21 @@ use Rattle.rules.specs.Calls.{owner_in, accepted, after}
 use Rattle.rules.specs.Requests.{action_of, class_of, is_create, in_directory}
 use Rattle.rules.specs.Modules.{view_of}
 use Rattle.rules.specs.Questions.{number}
-use Rattle.rules.specs.Proofs.Sound.{Sound}
-use Rattle.rules.specs.Proofs.Passed.{passed, accepted_zero}
+use Rattle.rules.proofs.Sound.{Sound}
+use Rattle.rules.proofs.Passed.{passed, accepted_zero}
 use Rattle.matter.specs.declared.Ledger.{Ledger}
 use Rattle.matter.specs.Laws.LedgerIsAccount.{InRange, Sized, call_carried, sized_step, AllInRange, done, more, followed, started, sized_start}
-use Rattle.labels.specs.Laws.Decisions.{by-test}
+use Rattle.labels.proofs.Laws.Decisions.{by-test}
 use Rattle.rules.specs.declared.Action.{Action}
 use Rattle.rules.specs.declared.Action.TheVariants.{Login, Clone, SendSignal, SetLevel, Terminate, Create, OnObject, Unknown}
 use Rattle.rules.specs.Matter.{Account, process_gains, object_gains, assign, enter, takes, gives, carry, carry_by, account, account_after, holds}
 use Rattle.rules.specs.Histories.{history}
 use Rattle.matter.specs.LedgerSteps.{account_of, carried_of, step_of, start_of, held_by}
 use Rattle.rules.specs.Effects.{effect_by}
-use Rattle.rules.specs.Proofs.ObjectNumbers.{effect_entered, refused_entered}
-use Rattle.rules.specs.Proofs.Regular.{Regular, regular_after}
+use Rattle.rules.proofs.ObjectNumbers.{effect_entered, refused_entered}
+use Rattle.rules.proofs.Regular.{Regular, regular_after}
 use Rattle.rules.specs.Setup.{fresh}
-use Rattle.rules.specs.Proofs.Fresh.{fresh_setup}
+use Rattle.rules.proofs.Fresh.{fresh_setup}
 use Rattle.matter.specs.AfterCalls.{ledger_of}
 
 -- an accepted call has numbers in range of a ledger with as many objects as the facility

@@ -8,7 +8,7 @@ use Rattle.std.proofs.Math.Seq.{set_out, get_or-set_same, get_or-set_other}
 use Rattle.std.proofs.Math.Nat.{div-eq_of_lt, mul-div-mul_right, two-pow-succ, pow-le-pow_right}
 use Rattle.matter.specs.LedgerSteps.{bit, per_word, put_members, with_object, with_process, members_in, is_member, no_members, merged_of, only_member, selves}
 use Rattle.labels.specs.Decisions.{◌or◌, at}
-use Rattle.labels.specs.Laws.Decisions.{by-eq, by-test}
+use Rattle.labels.proofs.Laws.Decisions.{by-eq, by-test}
 use Rattle.matter.specs.declared.Members.{Members}
 use Rattle.matter.specs.declared.Ledger.{Ledger}
 use Rattle.opens.specs.Opens.{most_objects}

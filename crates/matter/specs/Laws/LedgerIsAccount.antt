@@ -14,7 +14,7 @@ use Rattle.matter.specs.LedgerSteps.{is_member, held_by, put_members, account_of
 use Rattle.matter.specs.LedgerSteps.{object_gains_of, received_of, no_members, assigned_nothing_of, copied_of, with_kind, only_member, entered_of}
 use Rattle.matter.specs.LedgerSteps.{by_class, created_of}
 use Rattle.matter.specs.LedgerSteps.{on_object_of, carried_of, step_of, selves, start_of}
-use Rattle.labels.specs.Laws.Decisions.{by-eq, by-test}
+use Rattle.labels.proofs.Laws.Decisions.{by-eq, by-test}
 use Rattle.matter.specs.Laws.BitRows.{row_same, row_other, member_merged, member_none, length_put, member_only}
 use Rattle.labels.specs.Decisions.{at}
 use Rattle.state.specs.declared.Call.{Call}

@@ -2,7 +2,7 @@
 use Prim.Native.Nat.{ℕ}
 use mathlib.Core.Path.{◌≡◌, refl, ◌∙◌, ap}
 use lib.Dec.{eqb}
-use Rattle.labels.specs.Laws.Decisions.{by-test}
+use Rattle.labels.proofs.Laws.Decisions.{by-test}
 use Rattle.text.specs.Laws.Stored.{as_text}
 use Rattle.names.specs.Tables.{size_in, trimmed, word_at}
 use Rattle.names.specs.Words.{word_in, no_flag, flag_words, flag_row, flag_word}

@@ -3,7 +3,7 @@ use Rattle.std.specs.Prelude.{ℕ, suc, ◌+◌, zero, ◌<◌, ◌/◌, ◌%◌
 use Rattle.std.proofs.Common.{◌∙◌, ap, sym, length-set, get_or-set_other, get_or-set_same, ext_get_or, arith, add-one, eq-eqb, ne_eqb}
 use Rattle.std.proofs.lemmas.List.Edits.{sets}
 use Rattle.labels.specs.Decisions.{at}
-use Rattle.labels.specs.Laws.Decisions.{by-eq}
+use Rattle.labels.proofs.Laws.Decisions.{by-eq}
 use Rattle.opens.specs.Laws.Opens.{length_build, at_build}
 use Rattle.opens.specs.Opens.{most_opens, build, most_objects, place, most_processes, close_process, copy_process, close_object}
 

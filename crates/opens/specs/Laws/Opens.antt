@@ -4,7 +4,7 @@ use Rattle.std.proofs.Common.{ap, arith, lt-ltb, le-ltb}
 use Rattle.opens.specs.Opens.{build, close_object, close_process, copy_process, most_processes, most_objects, most_opens, place, mark_place, reading}
 use Rattle.opens.specs.Opens.{writing, add_modes}
 use Rattle.labels.specs.Decisions.{at, ◌or◌}
-use Rattle.labels.specs.Laws.Decisions.{by-test}
+use Rattle.labels.proofs.Laws.Decisions.{by-test}
 
 -- lists by a rule
 pub length_build : (n : ℕ) (g : ℕ → ℕ) → length (build n g) ≡ n

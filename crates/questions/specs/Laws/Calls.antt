@@ -17,7 +17,7 @@ use Rattle.rules.specs.declared.View.{View}
 use Rattle.rules.specs.Questions.{runs_of, number}
 use Rattle.answers.specs.declared.Answers.{Answers}
 use Rattle.answers.specs.Outcomes.{number_of, outcome_of}
-use Rattle.rules.specs.Proofs.Refusals.{query_number}
+use Rattle.rules.proofs.Refusals.{query_number}
 use Rattle.rules.specs.declared.Enforced.{Enforced}
 
 pub query_is : (f : Facility) (c : Call) → outcome_in (view_of f c) c ≡ query f c

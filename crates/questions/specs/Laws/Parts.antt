@@ -13,7 +13,7 @@ use Rattle.rules.specs.Questions.{runs_of, number_by, in_range}
 use Rattle.questions.specs.Parts.{late_number, object_number, process_number, outcome_by, later_number, outcome_in}
 use Rattle.labels.specs.Decisions.{ask, ◌or◌, ◌and◌}
 use Rattle.answers.specs.Outcomes.{denies, outcome_of}
-use Rattle.labels.specs.Laws.Decisions.{ask_later}
+use Rattle.labels.proofs.Laws.Decisions.{ask_later}
 use Rattle.answers.specs.declared.Outcome.TheVariants.{Refused}
 use Rattle.rules.specs.Requests.{last_request, action_of}
 use Rattle.opens.specs.Opens.{most_processes}

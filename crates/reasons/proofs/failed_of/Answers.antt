@@ -1,6 +1,6 @@
 -- The number is that of the outcome, which is query's.
 use Rattle.questions.specs.Laws.Calls.{enforced_outcome}
-use Rattle.reasons.specs.Proofs.Found.{failed_found}
+use Rattle.reasons.proofs.Found.{failed_found}
 use Rattle.reasons.proofs.failed_of.Goals as goal
 
 pub returns : goal.returns

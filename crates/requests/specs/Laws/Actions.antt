@@ -6,7 +6,7 @@ use borrow.Author.Tests.{le-leb, lt-leb, ne_eqb, eqb-true}
 use Rattle.rules.specs.Requests.{last_request, action_of, is_login, is_clone, is_send_signal}
 use Rattle.rules.specs.declared.Action.TheVariants.{OnObject, Unknown, Login, Clone, SendSignal, SetLevel, Terminate, Create}
 use Rattle.rules.specs.declared.Action.{Action}
-use Rattle.labels.specs.Laws.Decisions.{by-test}
+use Rattle.labels.proofs.Laws.Decisions.{by-test}
 
 -- a number from 21 on that is not 21
 past_last : (r : ℕ) → last_request ≤ r → r ≢ last_request → last_request < r

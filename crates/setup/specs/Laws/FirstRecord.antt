@@ -6,7 +6,7 @@ use Rattle.std.proofs.Math.Path.{sym}
 use Rattle.std.proofs.Math.Dec.{eqb}
 use Rattle.answers.specs.declared.SetupOutcome.TheVariants.{Accepted}
 use Rattle.labels.specs.Decisions.{ask}
-use Rattle.labels.specs.Laws.Decisions.{ask_yes, by-eq, by-test}
+use Rattle.labels.proofs.Laws.Decisions.{ask_yes, by-eq, by-test}
 use Rattle.rules.specs.declared.SetupRecord.{SetupRecord}
 use Rattle.rules.specs.Kinds.{kind_of, object_record_kind, place_of, switches_record_kind, user_record_kind}
 use Rattle.rules.specs.Setup.{enter_all, enter_record, first_record, records_of, refused_setup}

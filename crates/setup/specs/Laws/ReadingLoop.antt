@@ -10,10 +10,10 @@ use Rattle.state.specs.State.{all_off, blank}
 use Rattle.setup.specs.Progress.{Progress, none_before, progress_after}
 use Rattle.setup.specs.Laws.SameNumber.{Kept, none, number_by, number_same, kept_more}
 use Rattle.rules.specs.Kinds.{record_number}
-use Rattle.rules.specs.Proofs.Records.{accepts}
-use Rattle.rules.specs.Proofs.Fresh.{Read, read_record, read_none}
+use Rattle.rules.proofs.Records.{accepts}
+use Rattle.rules.proofs.Fresh.{Read, read_record, read_none}
 use Rattle.answers.specs.declared.SetupOutcome.TheVariants.{Accepted}
-use Rattle.labels.specs.Laws.Decisions.{and_l, and_r}
+use Rattle.labels.proofs.Laws.Decisions.{and_l, and_r}
 
 -- the records from k on, of n in the bytes s
 abbrev pub left : List ℕ → ℕ → ℕ → List SetupRecord

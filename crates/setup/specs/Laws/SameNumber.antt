@@ -3,13 +3,13 @@ use Rattle.std.specs.Prelude.{ℕ, ◌≤◌, ◌-◌, ◌≡◌, refl, true, Bo
 use Rattle.std.proofs.Common.{◌∙◌, ap, sym, arith, eq-eqb, ne_eqb}
 use Rattle.rules.specs.declared.SetupRecord.{SetupRecord}
 use Rattle.rules.specs.Kinds.{count_of, kind_of, place_of, fits, room, allowed_by, allowed, parent_fits, record_number}
-use Rattle.rules.specs.Proofs.Fresh.{Told}
+use Rattle.rules.proofs.Fresh.{Told}
 use Rattle.state.specs.declared.Facility.{Facility}
 use Rattle.state.specs.State.{object_in, one_more}
 use Rattle.setup.specs.declared.Progress.{Progress}
-use Rattle.labels.specs.Laws.Decisions.{by-test, by-eq}
+use Rattle.labels.proofs.Laws.Decisions.{by-test, by-eq}
 use Rattle.setup.specs.Progress.{count_after, fits_after, number_after, parent_fits_in, progress_after}
-use Rattle.rules.specs.Proofs.Past.{InOrder, order_none, count_same, order_more}
+use Rattle.rules.proofs.Past.{InOrder, order_none, count_same, order_more}
 use Rattle.labels.specs.Decisions.{◌and◌, ◌or◌, ask, at}
 
 -- p is kept of these records

@@ -6,7 +6,7 @@ use mathlib.Core.List.{List}
 use Rattle.std.proofs.Math.ListN.{get_or-eq_default}
 use Rattle.std.proofs.Math.Seq.{get_or-set_same, get_or-set_other, set_out}
 use Rattle.labels.specs.Decisions.{at}
-use Rattle.labels.specs.Laws.Decisions.{by-test, by-eq}
+use Rattle.labels.proofs.Laws.Decisions.{by-test, by-eq}
 use Rattle.state.specs.Shaped.{Shaped}
 use Rattle.opens.specs.Laws.Opens.{mark_place_law, no_object_place, no_process_place}
 use Rattle.state.specs.Laws.ReadBack.{process_out, opens_out, deleted_out, opens_kept, counted_none}

@@ -4,7 +4,7 @@ use Rattle.std.proofs.Common.{ap, ◌∙◌, subst, length-append, arith, lt-ltb
 use Rattle.std.proofs.Math.Numerals.{unary_clauses}
 use Rattle.io.specs.Digits.{hex_digit_ascii, last_digits, IsDigitCount}
 use Rattle.rules.specs.Lines.{decimal_in, decimal, blank, field}
-use Rattle.labels.specs.Laws.Decisions.{by-test}
+use Rattle.labels.proofs.Laws.Decisions.{by-test}
 
 power : (k : ℕ) → 10 ^ suc k ≡ 10 * 10 ^ k
 power k = simp unary_clauses (omega arith)

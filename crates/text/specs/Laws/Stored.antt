@@ -4,7 +4,7 @@ use Rattle.std.proofs.Common.{◌∙◌, ap, sym, subst, length-append, drop-con
 use Rattle.std.proofs.lemmas.List.Edits.{sets}
 use Rattle.std.proofs.Math.Seq.{set_out, length-sets, drop-length}
 use Rattle.opens.specs.Laws.Loops.{sets_append}
-use Rattle.labels.specs.Laws.Decisions.{by-test}
+use Rattle.labels.proofs.Laws.Decisions.{by-test}
 use Rattle.text.specs.Stored.{Stored}
 use Rattle.io.specs.Counts.{IsPrefixLen}
 

@@ -5,7 +5,7 @@ use mathlib.Core.Logic.{⊎_elim}
 use native.Mathlib.Omega.{arith}
 use borrow.Author.Rules.{rules}
 use Rattle.rules.specs.Setup.{new_number}
-use Rattle.rules.specs.Proofs.Parents.{new_most}
+use Rattle.rules.proofs.Parents.{new_most}
 use Rattle.writer.specs.Writing.{lives_only}
 use Rattle.writer.proofs.NewNumbers.{number_begins, number_live, number_gone}
 use Rattle.writer.proofs.new_number.Goals as goal

@@ -4,7 +4,7 @@ use mathlib.Core.Path.{sym, ◌∙◌, ap}
 use native.Mathlib.Omega.{arith}
 use borrow.Author.Tests.{eq-eqb, ne_eqb}
 use Rattle.rules.specs.Setup.{new_parent}
-use Rattle.rules.specs.Proofs.Parents.{new_most, parent_none, parent_dead, parent_live}
+use Rattle.rules.proofs.Parents.{new_most, parent_none, parent_dead, parent_live}
 use Rattle.writer.specs.Writing.{lives_only}
 use Rattle.writer.proofs.new_parent.Goals as goal
 

@@ -1,7 +1,7 @@
 -- The view is that of the facility, and the number query's.
 use Rattle.questions.specs.Laws.Calls.{enforced_outcome}
 use Rattle.in_place.specs.Layout.{facility_at}
-use Rattle.reasons.specs.Proofs.Found.{failed_found}
+use Rattle.reasons.proofs.Found.{failed_found}
 use Rattle.hvozdalka.proofs.refused.failed_at.Goals as goal
 
 pub returns : goal.returns
