@@ -19,6 +19,11 @@ abbrev pub failure_said : ℤ → Bool
 failure_said (pos n) = false
 failure_said (negsuc n) = true
 
+-- what may be said of a read into n bytes: how many it brought, at most n, or -1
+abbrev pub Moved : ℕ → ℤ → Type 0
+Moved n (pos k) = k ≤ n
+Moved n (negsuc k) = k ≡ 0
+
 -- A file that was read to its end, or to the buffer's: the last read brought nothing; where it failed no byte counts.
 pub record WholeFile (bytes : List ℕ) (total : ℕ) (said : ℤ) : Type 0 where
   pub within : IsPrefixLen total bytes

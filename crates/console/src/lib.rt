@@ -5,12 +5,14 @@
 
 ghost use Rattle.std.specs.Prelude.{◌≤◌, ◌+◌, min, ◌≡◌, length, take};
 ghost use Rattle.io.specs.Counts.{IsPrefixLen};
-ghost use Rattle.libc.specs.Io.{Moved};
 ghost use Rattle.rules.specs.Setup.{read_setup};
 ghost use Rattle.console.specs.Files.{CallsRead, WholeFile, kept_from, kept_in, nothing_kept};
-ghost use Rattle.console.specs.Files.{bytes_said, failure_said, more_said, whole_calls, written_of};
+ghost use Rattle.console.specs.Files.{Moved, bytes_said, failure_said, more_said, whole_calls, written_of};
 
 use rules::Reading;
+use std::io::{Eprint, Error, ErrorKind, Print, Read};
+use std::rt::Files;
+use std::{fs, thread};
 
 // More than a program can try: a proved loop has to end.
 const TRIES: u64 = 1 << 53;
@@ -71,16 +73,20 @@ pub struct Written {
 }
 
 // Whether a read or a write that failed is to be tried again: a signal came between, or the descriptor would block, while which others may run.
-fn again() -> bool {
-    let error = os::errno();
-    if error == libc::EINTR {
-        return true;
+fn again(error: &Error) -> bool {
+    match error.kind() {
+        ErrorKind::Interrupted => true,
+        ErrorKind::WouldBlock => {
+            thread::yield_now();
+            true
+        }
+        _ => false,
     }
-    if error == libc::EAGAIN {
-        libc::sched_yield();
-        return true;
-    }
-    false
+}
+
+// Tells on standard error what failed and why. Where that fails too, nothing is left to tell it on.
+fn fail<R: Eprint>(rt: &R, what: &str, error: &Error) {
+    let _ = eprintln!(rt; "{what}: {error}");
 }
 
 // Whether there may be more, and whether it failed, by what the system said of a read.
@@ -97,18 +103,19 @@ fn is_failure(said: isize) -> bool
 }
 
 // Reads what there is, and answers how many bytes it put at the start of the buffer, 0 at the end of the input, or -1 where it failed, which is told.
-fn read_some(fd: i32, what: &[u8], bytes: &mut [u8]) -> isize
+fn read_some<R: Eprint, S: Read>(rt: &R, source: &mut S, what: &str, bytes: &mut [u8]) -> isize
     ensures { Moved (length bytes.old) result }
 {
     let mut k: u64 = 0;
     while k < TRIES {
-        let got = libc::read(fd, bytes);
-        if got >= 0 {
-            return got;
-        }
-        if !again() {
-            os::fail(what);
-            return -1;
+        match source.read(bytes) {
+            Ok(got) => return got as isize,
+            Err(error) => {
+                if !again(&error) {
+                    fail(rt, what, &error);
+                    return -1;
+                }
+            }
         }
         k += 1;
     }
@@ -116,7 +123,13 @@ fn read_some(fd: i32, what: &[u8], bytes: &mut [u8]) -> isize
 }
 
 // Reads what there is behind the first bytes of the buffer, which are kept.
-fn read_behind(fd: i32, what: &[u8], bytes: &mut [u8], kept: usize) -> Got
+fn read_behind<R: Eprint, S: Read>(
+    rt: &R,
+    source: &mut S,
+    what: &str,
+    bytes: &mut [u8],
+    kept: usize,
+) -> Got
     ensures prefix_len { IsPrefixLen result.total bytes.new }
     ensures total_value { result.total ≡ min kept (length bytes.new) + bytes_said result.said }
     ensures bytes_unchanged { take kept bytes.new ≡ take kept bytes.old }
@@ -125,7 +138,7 @@ fn read_behind(fd: i32, what: &[u8], bytes: &mut [u8], kept: usize) -> Got
     if kept >= n {
         return Got { total: n, said: 0 };
     }
-    let said = read_some(fd, what, &mut bytes[kept..]);
+    let said = read_some(rt, source, what, &mut bytes[kept..]);
     Got {
         total: kept + io::count(said, &bytes[kept..]),
         said,
@@ -171,12 +184,12 @@ fn to_line(total: usize, more: bool) -> usize
 }
 
 // Reads what there is of the calls on standard input, behind the bytes that were kept: none of these is lost, and none of those behind what is lined.
-pub fn read_calls(bytes: &mut [u8], kept: Kept) -> Input
+pub fn read_calls<R: std::io::Input + Eprint>(rt: &R, bytes: &mut [u8], kept: Kept) -> Input
     ensures calls_read { CallsRead kept bytes.new result }
     ensures prefix_len { IsPrefixLen result.lined bytes.new }
 {
     let n = put_kept(bytes, kept);
-    let got = read_behind(libc::STDIN_FILENO, b"standard input", bytes, n);
+    let got = read_behind(rt, &mut rt.reader(), "standard input", bytes, n);
     let total = got.total;
     let said = got.said;
     let more = is_more(said);
@@ -191,13 +204,13 @@ pub fn read_calls(bytes: &mut [u8], kept: Kept) -> Input
 }
 
 // Reads an open file to the front of a buffer, as much as there is room for; no byte counts where it cannot be read.
-fn read_whole(fd: i32, what: &[u8], bytes: &mut [u8]) -> Got
+fn read_whole<R: Eprint, S: Read>(rt: &R, source: &mut S, what: &str, bytes: &mut [u8]) -> Got
     ensures { WholeFile bytes.new result.total result.said }
 {
     let mut total: usize = 0;
     let mut k: u64 = 0;
     while k < TRIES {
-        let got = read_behind(fd, what, bytes, total);
+        let got = read_behind(rt, source, what, bytes, total);
         let said = got.said;
         if is_failure(said) {
             return Got { total: 0, said };
@@ -212,33 +225,32 @@ fn read_whole(fd: i32, what: &[u8], bytes: &mut [u8]) -> Got
 }
 
 // Reads a file; no byte counts where it cannot be read, which is told.
-fn read_file(path: &[u8], bytes: &mut [u8]) -> Got
+fn read_file<R: Files + Eprint>(rt: &R, path: &str, bytes: &mut [u8]) -> Got
     ensures { WholeFile bytes.new result.total result.said }
 {
-    let fd = os::open_read(path);
-    if fd < 0 {
-        os::fail(path);
-        return Got { total: 0, said: -1 };
+    match fs::open(rt, path) {
+        Ok(mut file) => read_whole(rt, &mut file, path, bytes),
+        Err(error) => {
+            fail(rt, path, &error);
+            Got { total: 0, said: -1 }
+        }
     }
-    let got = read_whole(fd, path, bytes);
-    libc::close(fd);
-    got
 }
 
 // Reads `setup.bin`, in the folder where the program is started, to the front of a buffer. Every allowed length of a set-up is far below 65,536, so that
 // of a longer file the front is refused as the whole would be, where the buffer has so many bytes.
-pub fn read_setup_bytes(bytes: &mut [u8]) -> Got
+pub fn read_setup_bytes<R: Files + Eprint>(rt: &R, bytes: &mut [u8]) -> Got
     ensures { WholeFile bytes.new result.total result.said }
 {
-    read_file(b"setup.bin", bytes)
+    read_file(rt, "setup.bin", bytes)
 }
 
 // The same, and the set-up that they are.
-pub fn read_setup(bytes: &mut [u8]) -> SetupRead
+pub fn read_setup<R: Files + Eprint>(rt: &R, bytes: &mut [u8]) -> SetupRead
     ensures whole_file { WholeFile bytes.new result.count result.said }
     ensures reading_value { result.reading ≡ read_setup (take result.count bytes.new) }
 {
-    let got = read_setup_bytes(bytes);
+    let got = read_setup_bytes(rt, bytes);
     let count = got.total;
     SetupRead {
         reading: setup::read_setup(&bytes[..count]),
@@ -248,25 +260,23 @@ pub fn read_setup(bytes: &mut [u8]) -> SetupRead
 }
 
 // Writes what it can of a text, and answers how many bytes; none where it failed.
-fn write_some(text: &[u8]) -> usize
+fn write_some<R: Print + Eprint>(rt: &R, text: &[u8]) -> usize
     ensures { result ≤ length text.now }
 {
     let mut k: u64 = 0;
     while k < TRIES {
-        let put = libc::write(libc::STDOUT_FILENO, text);
-        if put > 0 {
-            return io::count(put, text);
-        }
-        if put == 0 {
-            io::write_all(
-                libc::STDERR_FILENO,
-                b"standard output: No space left on device\n",
-            );
-            return 0;
-        }
-        if !again() {
-            os::fail(b"standard output");
-            return 0;
+        match rt.write_some(text) {
+            Ok(0) => {
+                let _ = eprintln!(rt; "standard output: No space left on device");
+                return 0;
+            }
+            Ok(put) => return put,
+            Err(error) => {
+                if !again(&error) {
+                    fail(rt, "standard output", &error);
+                    return 0;
+                }
+            }
         }
         k += 1;
     }
@@ -274,13 +284,13 @@ fn write_some(text: &[u8]) -> usize
 }
 
 // Writes all lines, or as many bytes as the system takes.
-pub fn write_lines(text: &[u8]) -> Written
+pub fn write_lines<R: Print + Eprint>(rt: &R, text: &[u8]) -> Written
     ensures value { result ≡ written_of text.now result.taken }
     ensures taken_in_bounds { result.taken ≤ length text.now }
 {
     let mut taken: usize = 0;
     while taken < text.len() {
-        let put = write_some(&text[taken..]);
+        let put = write_some(rt, &text[taken..]);
         if put == 0 {
             return Written { taken, all: false };
         }

@@ -10,6 +10,8 @@ ghost use Rattle.run.specs.AllReads.{Turn};
 
 use answers::SetupOutcome;
 use console::{Input, Kept};
+use std::io::{Eprint, Print};
+use std::rt::Files;
 
 // More reads, and more calls, than there can be: a proved loop has to end.
 const READS: u64 = 1 << 53;
@@ -25,12 +27,16 @@ struct SetupRead {
 }
 
 // Reads the set-up into the bytes of a facility.
-fn read_setup(bytes: &mut [u8], f: &mut [u8; in_place::SIZE]) -> SetupRead
+fn read_setup<R: Files + Eprint>(
+    rt: &R,
+    bytes: &mut [u8],
+    f: &mut [u8; in_place::SIZE],
+) -> SetupRead
     ensures whole_file { WholeFile bytes.new result.count result.said }
     ensures outcome_value { result.outcome ≡ (read_setup (take result.count bytes.new)).outcome }
     ensures becomes { Becomes f.old f.new (read_setup (take result.count bytes.new)).facility }
 {
-    let got = console::read_setup_bytes(bytes);
+    let got = console::read_setup_bytes(rt, bytes);
     let count = got.total;
     SetupRead {
         outcome: setup_in_place::read_in(&bytes[..count], f),
@@ -50,7 +56,8 @@ struct After {
 }
 
 // Reads calls, and writes the lines of those that are whole; at the end of the input `short`, where bytes are left over.
-fn turn(
+fn turn<R: std::io::Input + Print + Eprint>(
+    rt: &R,
     f: &mut [u8; in_place::SIZE],
     done: u64,
     bytes: &mut [u8],
@@ -60,7 +67,7 @@ fn turn(
     requires { done < 2 ^ 62 }
     ensures { Turn kept done f.old f.new bytes.new out.old out.new result }
 {
-    let input = console::read_calls(bytes, kept);
+    let input = console::read_calls(rt, bytes, kept);
     let lined = input.lined;
     let next = done + (lined as u64) / 4;
     if input.failed {
@@ -73,7 +80,7 @@ fn turn(
         };
     }
     let length = lines::put_block_in(f, done + 1, &bytes[..lined], out);
-    let written = console::write_lines(&out[..length]);
+    let written = console::write_lines(rt, &out[..length]);
     After {
         done: next,
         input,
@@ -84,7 +91,7 @@ fn turn(
 }
 
 // The buffer has 4,096 bytes, which are 1,024 calls of at most 49 bytes of text each: 65,536 bytes hold their lines.
-fn run(f: &mut [u8; in_place::SIZE]) {
+fn run<R: std::io::Input + Print + Eprint>(rt: &R, f: &mut [u8; in_place::SIZE]) {
     let mut bytes = io::buffer();
     let mut out = io::large_buffer();
     let mut done: u64 = 0;
@@ -94,7 +101,7 @@ fn run(f: &mut [u8; in_place::SIZE]) {
         if done >= CALLS {
             return;
         }
-        let t = turn(f, done, &mut bytes, kept, &mut out);
+        let t = turn(rt, f, done, &mut bytes, kept, &mut out);
         if !t.more {
             return;
         }
@@ -105,19 +112,19 @@ fn run(f: &mut [u8; in_place::SIZE]) {
     }
 }
 
-fn refuse(number: u8, index: u16) {
+fn refuse<R: Print + Eprint>(rt: &R, number: u8, index: u16) {
     let mut out = io::buffer();
     let n = lines::put_setup(&mut out, number, index);
-    console::write_lines(&out[..n]);
+    console::write_lines(rt, &out[..n]);
 }
 
-fn main() {
+fn main(rt: HostRuntime) {
     let mut bytes = io::large_buffer();
     let mut f = [0u8; in_place::SIZE];
-    let read = read_setup(&mut bytes, &mut f);
+    let read = read_setup(&rt, &mut bytes, &mut f);
     let outcome = read.outcome;
     match outcome {
-        SetupOutcome::Accepted => run(&mut f),
-        SetupOutcome::Refused { number, index } => refuse(number, index),
+        SetupOutcome::Accepted => run(&rt, &mut f),
+        SetupOutcome::Refused { number, index } => refuse(&rt, number, index),
     }
 }

@@ -10,6 +10,7 @@ ghost use Rattle.run_words.specs.Turns.{Turn};
 use answers::SetupOutcome;
 use console::{Input, Kept};
 use state::Facility;
+use std::io::{Eprint, Print};
 
 // More reads, and more calls, than there can be: a proved loop has to end.
 const READS: u64 = 1 << 53;
@@ -43,7 +44,7 @@ struct After {
 }
 
 // Writes the lines that are stored where there is no room for one more.
-fn write_full(lines: &[u8]) -> Stored
+fn write_full<R: Print + Eprint>(rt: &R, lines: &[u8]) -> Stored
     ensures { result.place ≤ length lines.now }
 {
     let n = lines.len();
@@ -53,7 +54,7 @@ fn write_full(lines: &[u8]) -> Stored
             written: true,
         };
     }
-    let written = console::write_lines(lines);
+    let written = console::write_lines(rt, lines);
     Stored {
         place: 0,
         written: written.all,
@@ -61,7 +62,7 @@ fn write_full(lines: &[u8]) -> Stored
 }
 
 // Prints the calls of a block, the first of which has this index, and stops where a line cannot be written.
-fn tell_block(start: Facility, first: u64, calls: &[u8]) -> Told
+fn tell_block<R: Print + Eprint>(rt: &R, start: Facility, first: u64, calls: &[u8]) -> Told
     requires { first < 2 ^ 63 }
     ensures { result.written ≡ true → result.facility ≡ Histories·run start (calls_of calls.now) }
 {
@@ -75,7 +76,7 @@ fn tell_block(start: Facility, first: u64, calls: &[u8]) -> Told
         let index = first + (i as u64) / 4;
         i += 4;
         f = words::tell(f, index, c, &mut out, &mut place);
-        let stored = write_full(&out[..place]);
+        let stored = write_full(rt, &out[..place]);
         if !stored.written {
             return Told {
                 facility: f,
@@ -84,7 +85,7 @@ fn tell_block(start: Facility, first: u64, calls: &[u8]) -> Told
         }
         place = stored.place;
     }
-    let written = console::write_lines(&out[..place]);
+    let written = console::write_lines(rt, &out[..place]);
     Told {
         facility: f,
         written: written.all,
@@ -92,7 +93,7 @@ fn tell_block(start: Facility, first: u64, calls: &[u8]) -> Told
 }
 
 // Prints `short` where bytes are left over of so many, and all before it was written; whether all was.
-fn tell_short(lined: usize, written: bool) -> bool
+fn tell_short<R: Print + Eprint>(rt: &R, lined: usize, written: bool) -> bool
     ensures { result ≡ true → written ≡ true }
 {
     if !written {
@@ -101,20 +102,26 @@ fn tell_short(lined: usize, written: bool) -> bool
     if lined % 4 == 0 {
         return true;
     }
-    let short = console::write_lines(b"short\n");
+    let short = console::write_lines(rt, b"short\n");
     short.all
 }
 
 // Reads calls, and prints those that are whole; at the end of the input `short`, where bytes are left over.
-fn turn(f: Facility, done: u64, bytes: &mut [u8], kept: Kept) -> After
+fn turn<R: std::io::Input + Print + Eprint>(
+    rt: &R,
+    f: Facility,
+    done: u64,
+    bytes: &mut [u8],
+    kept: Kept,
+) -> After
     requires { done < 2 ^ 62 }
     ensures { Turn kept f done bytes.new result }
 {
-    let input = console::read_calls(bytes, kept);
+    let input = console::read_calls(rt, bytes, kept);
     let lined = input.lined;
-    let told = tell_block(f, done + 1, &bytes[..lined]);
+    let told = tell_block(rt, f, done + 1, &bytes[..lined]);
     let facility = told.facility;
-    let written = tell_short(lined, told.written & !input.failed);
+    let written = tell_short(rt, lined, told.written & !input.failed);
     After {
         facility,
         done: done + (lined as u64) / 4,
@@ -123,7 +130,7 @@ fn turn(f: Facility, done: u64, bytes: &mut [u8], kept: Kept) -> After
     }
 }
 
-fn run(start: Facility) {
+fn run<R: std::io::Input + Print + Eprint>(rt: &R, start: Facility) {
     let mut bytes = io::buffer();
     let mut f = start;
     let mut done: u64 = 0;
@@ -133,7 +140,7 @@ fn run(start: Facility) {
         if done >= CALLS {
             return;
         }
-        let t = turn(f, done, &mut bytes, kept);
+        let t = turn(rt, f, done, &mut bytes, kept);
         if !t.more {
             return;
         }
@@ -145,20 +152,20 @@ fn run(start: Facility) {
     }
 }
 
-fn refuse(number: u8, index: u16) {
+fn refuse<R: Print + Eprint>(rt: &R, number: u8, index: u16) {
     let mut out = io::large_buffer();
     let n = words::put_setup(&mut out, number, index as u64);
-    console::write_lines(&out[..n]);
+    console::write_lines(rt, &out[..n]);
 }
 
-fn main() {
+fn main(rt: HostRuntime) {
     let mut bytes = io::large_buffer();
-    let read = console::read_setup(&mut bytes);
+    let read = console::read_setup(&rt, &mut bytes);
     let reading = read.reading;
     let f = reading.facility;
     let outcome = reading.outcome;
     match outcome {
-        SetupOutcome::Accepted => run(f),
-        SetupOutcome::Refused { number, index } => refuse(number, index),
+        SetupOutcome::Accepted => run(&rt, f),
+        SetupOutcome::Refused { number, index } => refuse(&rt, number, index),
     }
 }

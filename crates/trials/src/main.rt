@@ -9,27 +9,30 @@
 ghost use Rattle.std.specs.Prelude.{◌≤◌};
 
 use answers::{Answers, Outcome, SetupOutcome, WriteOutcome};
-use libc::{STDIN_FILENO, STDOUT_FILENO};
 use matter::Ledger;
 use state::Facility;
+use std::io::{Input, Print, Read};
 
-fn show(n: u64, last: u8) {
-    io::print_decimal(STDOUT_FILENO, n);
-    let end = [last];
-    io::write_all(STDOUT_FILENO, &end);
+// Writes a text. Where that fails it is missing in the output, which is compared.
+fn tell<R: Print>(rt: &R, text: &[u8]) {
+    let _ = rt.write_all(text);
+}
+
+fn show<R: Print>(rt: &R, n: u64, last: u8) {
+    let _ = print!(rt; "{n}{}", last as char);
 }
 
 // The lines of the run program.
-fn show_block(f: Facility, bytes: &[u8], out: &mut [u8]) {
+fn show_block<R: Print>(rt: &R, f: Facility, bytes: &[u8], out: &mut [u8]) {
     let printed = lines::put_block(f, 1, bytes, out);
     let n = printed.length;
-    io::write_all(STDOUT_FILENO, &out[..n]);
+    tell(rt, &out[..n]);
 }
 
-fn show_refused(number: u8, index: u16) {
+fn show_refused<R: Print>(rt: &R, number: u8, index: u16) {
     let mut out = io::buffer();
     let n = lines::put_setup(&mut out, number, index);
-    io::write_all(STDOUT_FILENO, &out[..n]);
+    tell(rt, &out[..n]);
 }
 
 // The answers of the modules and the combined one as one number.
@@ -110,47 +113,47 @@ fn holds_alone(s: &[u8], out: &[u8]) -> bool {
 
 // Writes an accepted set-up out into the first bytes of a buffer: number and length, and whether the buffer then holds the set-up alone, or
 // is untouched.
-fn write_into(f: Facility, s: &[u8], out: &mut [u8], room: usize) {
+fn write_into<R: Print>(rt: &R, f: Facility, s: &[u8], out: &mut [u8], room: usize) {
     if room <= out.len() {
         let w = writer::write_setup(f, &mut out[..room]);
-        show_length(w);
-        show_buffer(s, out);
+        show_length(rt, w);
+        show_buffer(rt, s, out);
     }
 }
 
-fn show_buffer(s: &[u8], out: &[u8]) {
+fn show_buffer<R: Print>(rt: &R, s: &[u8], out: &[u8]) {
     if holds_alone(s, out) {
-        io::write_all(STDOUT_FILENO, b"same\n");
+        tell(rt, b"same\n");
     } else if untouched(out, 0) {
-        io::write_all(STDOUT_FILENO, b"untouched\n");
+        tell(rt, b"untouched\n");
     } else {
-        io::write_all(STDOUT_FILENO, b"touched\n");
+        tell(rt, b"touched\n");
     }
 }
 
-fn show_length(w: WriteOutcome) {
+fn show_length<R: Print>(rt: &R, w: WriteOutcome) {
     match w {
         WriteOutcome::Written { length } => {
-            show(0, b' ');
-            show(length as u64, b' ');
+            show(rt, 0, b' ');
+            show(rt, length as u64, b' ');
         }
         WriteOutcome::NoRoom => {
-            io::write_all(STDOUT_FILENO, b"18 0 ");
+            tell(rt, b"18 0 ");
         }
     }
 }
 
-fn write_back(f: Facility, s: &[u8], room: usize) {
+fn write_back<R: Print>(rt: &R, f: Facility, s: &[u8], room: usize) {
     let mut out = [OTHER; 4096];
-    write_into(f, s, &mut out, room);
+    write_into(rt, f, s, &mut out, room);
 }
 
 // A line where a set-up that is written out into a longer buffer touches a byte behind it.
-fn write_with_room(f: Facility, s: &[u8]) {
+fn write_with_room<R: Print>(rt: &R, f: Facility, s: &[u8]) {
     let mut out = [OTHER; 4096];
     writer::write_setup(f, &mut out);
     if !holds_alone(s, &out) {
-        io::write_all(STDOUT_FILENO, b"touched\n");
+        tell(rt, b"touched\n");
     }
 }
 
@@ -167,24 +170,24 @@ fn weighed(bytes: &[u8], n: usize) -> u64 {
     sum
 }
 
-fn show_written(f: Facility, out: &mut [u8]) {
+fn show_written<R: Print>(rt: &R, f: Facility, out: &mut [u8]) {
     let w = writer::write_setup(f, out);
     match w {
         WriteOutcome::Written { length } => {
-            show(length as u64, b' ');
-            show(weighed(out, length), b' ');
+            show(rt, length as u64, b' ');
+            show(rt, weighed(out, length), b' ');
         }
         WriteOutcome::NoRoom => {
-            io::write_all(STDOUT_FILENO, b"18 ");
+            tell(rt, b"18 ");
         }
     }
 }
 
 // The counters of refusals, by user.
-fn show_refusals(refusals: &[u32]) {
+fn show_refusals<R: Print>(rt: &R, refusals: &[u32]) {
     let mut u: usize = 0;
     while u < state::USERS {
-        show(labels::word_at(refusals, u) as u64, b' ');
+        show(rt, labels::word_at(refusals, u) as u64, b' ');
         u += 1;
     }
 }
@@ -210,18 +213,18 @@ fn weighed_flags<'a>(lives: &'a [u8], flags: &'a [u8], parents: &'a [u8]) -> u64
     sum
 }
 
-fn show_state(f: Facility, agreed: u64) {
-    io::write_all(STDOUT_FILENO, b"state ");
-    show(agreed, b' ');
-    show_refusals(&f.refusals);
-    show(f.entered as u64, b' ');
+fn show_state<R: Print>(rt: &R, f: Facility, agreed: u64) {
+    tell(rt, b"state ");
+    show(rt, agreed, b' ');
+    show_refusals(rt, &f.refusals);
+    show(rt, f.entered as u64, b' ');
     let mut out = io::buffer();
-    show_written(f, &mut out);
-    show(weighed_flags(&f.lives, &f.flags, &f.parents), b' ');
-    show(weighed(&f.moves, state::PROCESSES), b' ');
-    show(weighed(&f.currentsets, state::PROCESSES), b' ');
-    show(weighed(&f.readsets, state::PROCESSES), b' ');
-    show(weighed(&f.writesets, state::PROCESSES), b'\n');
+    show_written(rt, f, &mut out);
+    show(rt, weighed_flags(&f.lives, &f.flags, &f.parents), b' ');
+    show(rt, weighed(&f.moves, state::PROCESSES), b' ');
+    show(rt, weighed(&f.currentsets, state::PROCESSES), b' ');
+    show(rt, weighed(&f.readsets, state::PROCESSES), b' ');
+    show(rt, weighed(&f.writesets, state::PROCESSES), b'\n');
 }
 
 // How many of the object numbers below n object x holds the matter of.
@@ -246,31 +249,31 @@ fn count_pairs(l: Ledger, n: u8) -> u32 {
     count
 }
 
-fn show_matter(l: Ledger) {
-    io::write_all(STDOUT_FILENO, b"matter ");
-    show(count_pairs(l, l.next) as u64, b'\n');
+fn show_matter<R: Print>(rt: &R, l: Ledger) {
+    tell(rt, b"matter ");
+    show(rt, count_pairs(l, l.next) as u64, b'\n');
 }
 
 // An accepted set-up: written back, its calls run, then what replay and the account come to.
-fn accepted(f: Facility, setup: &[u8], bytes: &[u8]) {
-    write_back(f, setup, setup.len());
+fn accepted<R: Print>(rt: &R, f: Facility, setup: &[u8], bytes: &[u8]) {
+    write_back(rt, f, setup, setup.len());
     if 0 < setup.len() {
-        write_back(f, setup, setup.len() - 1);
+        write_back(rt, f, setup, setup.len() - 1);
     }
-    write_with_room(f, setup);
+    write_with_room(rt, f, setup);
     let mut out = io::large_buffer();
-    show_block(f, bytes, &mut out);
-    show_state(history::replay(setup, bytes), agreed(f, bytes));
-    show_matter(history::account(setup, bytes));
+    show_block(rt, f, bytes, &mut out);
+    show_state(rt, history::replay(setup, bytes), agreed(f, bytes));
+    show_matter(rt, history::account(setup, bytes));
 }
 
-fn one(setup: &[u8], bytes: &[u8]) {
+fn one<R: Print>(rt: &R, setup: &[u8], bytes: &[u8]) {
     let r = setup::read_setup(setup);
     let f = r.facility;
     let o = r.outcome;
     match o {
-        SetupOutcome::Accepted => accepted(f, setup, bytes),
-        SetupOutcome::Refused { number, index } => show_refused(number, index),
+        SetupOutcome::Accepted => accepted(rt, f, setup, bytes),
+        SetupOutcome::Refused { number, index } => show_refused(rt, number, index),
     }
 }
 
@@ -281,59 +284,64 @@ fn two_bytes(low: u8, high: u8) -> usize
     (low as usize) + (high as usize) * 256
 }
 
-// Reads n bytes to the front of a buffer that holds them, and answers how many there were.
-fn fill(bytes: &mut [u8], n: usize) -> usize {
+// Reads bytes until a buffer is full; false where there are not so many.
+fn read_full<R: Input>(rt: &R, bytes: &mut [u8]) -> bool {
+    rt.reader().read_exact(bytes).is_ok()
+}
+
+// Reads n bytes to the front of a buffer that holds them; false where they are not there.
+fn fill<R: Input>(rt: &R, bytes: &mut [u8], n: usize) -> bool {
     if bytes.len() < n {
-        return 0;
+        return false;
     }
-    io::read_full(STDIN_FILENO, &mut bytes[..n])
+    read_full(rt, &mut bytes[..n])
 }
 
 // The calls of a case whose set-up is known. No case has more than the buffer holds.
-fn with_setup(setup: &[u8], bytes: &mut [u8]) {
+fn with_setup<R: Input + Print>(rt: &R, setup: &[u8], bytes: &mut [u8]) {
     let mut b = [0u8; 4];
-    io::read_full(STDIN_FILENO, &mut b);
+    read_full(rt, &mut b);
     let n = two_bytes(b[0], b[1]) + two_bytes(b[2], b[3]) * 65536;
-    fill(bytes, n);
+    fill(rt, bytes, n);
     if n <= bytes.len() {
-        one(setup, &bytes[..n]);
+        one(rt, setup, &bytes[..n]);
     }
 }
 
 // Lends the first n bytes of a set-up's buffer.
-fn lend_setup(setup: &[u8], n: usize) {
+fn lend_setup<R: Input + Print>(rt: &R, setup: &[u8], n: usize) {
     let mut bytes = io::buffer();
     if n <= setup.len() {
-        with_setup(&setup[..n], &mut bytes);
+        with_setup(rt, &setup[..n], &mut bytes);
     }
 }
 
 // A set-up of n bytes and the calls behind it; false where they are not there.
-fn next_setup(n: usize) -> bool {
+fn next_setup<R: Input + Print>(rt: &R, n: usize) -> bool {
     let mut setup = io::buffer();
-    if fill(&mut setup, n) < n {
+    if !fill(rt, &mut setup, n) {
         return false;
     }
-    lend_setup(&setup, n);
+    lend_setup(rt, &setup, n);
     true
 }
 
 // The next case; false where there is none.
-fn next(place: u64) -> bool {
+fn next<R: Input + Print>(rt: &R, place: u64) -> bool {
     let mut b = [0u8; 2];
-    if io::read_full(STDIN_FILENO, &mut b) < 2 {
+    if !read_full(rt, &mut b) {
         return false;
     }
     let n = two_bytes(b[0], b[1]);
-    io::write_all(STDOUT_FILENO, b"case ");
-    show(place, b'\n');
-    next_setup(n)
+    tell(rt, b"case ");
+    show(rt, place, b'\n');
+    next_setup(rt, n)
 }
 
-fn main() {
+fn main(rt: HostRuntime) {
     let mut place: u64 = 1;
     while place < 4294967295 {
-        if !next(place) {
+        if !next(&rt, place) {
             return;
         }
         place += 1;
