@@ -6,7 +6,7 @@ and at others, of trusted owners too, to itself, with what channels hold carried
 and down by writes as often as they may, with clones, and lists rich in labels of which neither dominates the other; most set-ups have
 categories, some none. The same with set-ups and calls damaged, cut short or made longer, and lists of random
 bytes. Of every list the number of moves that the model's processes carry is held against their history and their bound. The programs are
-target/bin/run and target/bin/run_words (`rt check run run_words` builds them). Then the hostile inputs: no `setup.bin`, a folder of that
+target/bin/run and target/bin/run_words (`tools/programs` builds them). Then the hostile inputs: no `setup.bin`, a folder of that
 name, one that is empty, cut, too long or unreadable, no calls, and an output that nobody reads. Ends with the number of comparisons, or at
 the first difference, which it leaves in a folder.
 """

@@ -4,8 +4,9 @@
 usage: tools/respell.py          at the top of the repository, once
        tools/respell.py --list   what would be renamed, and which names would fall together
 
-Renamed are the names that a file of specs/, or a file of lemmas in proofs/, declares: definitions, lemmas, fields, constructors, names in a `where`. Functions of
-src/, strings, inputs and outputs keep their names; so does what Rattle makes. In a comment a name with a dash is a word of English unless it stands in backticks.
+Renamed are the names that a file of specs/, or a file of lemmas in proofs/, declares: definitions, lemmas, fields, constructors, names in a `where`.
+Functions of src/, strings, inputs and outputs keep their names; so does what Rattle makes. In a comment a name with a dash is a word of English unless
+it stands in backticks.
 """
 import os
 import re
@@ -16,8 +17,8 @@ CLAUSE = re.compile(r"^\s*([a-z][\w'-]*)\s.*=(\s|$)")
 TOKEN = re.compile(r"[A-Za-z_][\w'-]*")
 # Lemmas that would fall together with the definition that they are about, and examples with what they compute.
 EXAMPLES = "fc-rule sim-rule fresh-process numbers-given object-bytes user-bytes open-marks refused-setup trusted-logins".split()
-LAWS = """add-object bit-or add-user by-class few-calls is-clone is-create is-login is-on-object kind-at mac-object mark-place may-read may-write new-clone new-login
-new-parent no-request object-entered object-gains objects-section parent-fits process-bytes process-gains refused-length set-of switches-entered
+LAWS = """add-object bit-or add-user by-class few-calls is-clone is-create is-login is-on-object kind-at mac-object mark-place may-read may-write new-clone
+new-login new-parent no-request object-entered object-gains objects-section parent-fits process-bytes process-gains refused-length set-of switches-entered
 user-entered users-section word-at""".split()
 APART = {n: n.replace("-", "_") + "_example" for n in EXAMPLES} | {n: n.replace("-", "_") + "_law" for n in LAWS}
 # The same for names that port.py had brought to snake case: in the file that declares them, and in those that import them from there.

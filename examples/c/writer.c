@@ -204,16 +204,17 @@ static struct use use_of(void (*job)(void), hv_facility f, size_t length, uint8_
     return u;
 }
 
-/* The same figures for one record, for all of them, and for a buffer that is a byte too short for all. */
+/* The same figures for one record of each kind, for all of them, and for a buffer that is a byte too short for all. The switches alone need no more. */
 static struct use measured(const char *name, void (*job)(void))
 {
-    hv_facility one = fresh(0, 0), all = fresh(HV_USERS, HV_OBJECTS);
-    struct use a = use_of(job, one, RECORD, HV_ACCEPTED);
+    hv_facility none = fresh(0, 0), few = fresh(1, 1), all = fresh(HV_USERS, HV_OBJECTS);
+    struct use s = use_of(job, none, RECORD, HV_ACCEPTED);
+    struct use a = use_of(job, few, 3 * RECORD, HV_ACCEPTED);
     struct use b = use_of(job, all, HV_SETUP_MOST, HV_ACCEPTED);
     struct use c = use_of(job, all, HV_SETUP_MOST - 1, HV_NO_ROOM);
-    expect(a.stack == b.stack && c.stack <= b.stack, "stack of one and of all records", name, b.stack);
-    expect(a.copied == b.copied && c.copied == b.copied, "bytes copied of one and of all records", name, b.copied);
-    printf("writer: %s: %zu bytes of stack for 1 record and %zu for %d; %zu bytes copied and %zu\n", name, a.stack, b.stack, HV_SETUP_MOST / RECORD,
+    expect(s.stack <= a.stack && a.stack == b.stack && c.stack <= b.stack, "stack of few and of all records", name, b.stack);
+    expect(s.copied == a.copied && a.copied == b.copied && c.copied == b.copied, "bytes copied of few and of all records", name, b.copied);
+    printf("writer: %s: %zu bytes of stack for 3 records and %zu for %d; %zu bytes copied and %zu\n", name, a.stack, b.stack, HV_SETUP_MOST / RECORD,
            a.copied, b.copied);
     return b;
 }

@@ -34,7 +34,7 @@ unfoldable pub outcomes_computed : ℕ
 unfolding grant passes denies answers_from outcome_of
 outcomes_computed = 0
 
--- `close_object`, `close_process` and `copy_process` stay shut: they are 4,096 marks each, and Examples/Opens has the laws of them
+-- `close_object`, `close_process` and `copy_process` stay shut: they are 4,096 marks each, and Laws/Opens of `opens` has the laws of them
 unfoldable pub state_computed : ℕ
 unfolding process_in object_in user_in mark_place opens_of reading writing add_modes fresh_process no_process blank
 state_computed = 0

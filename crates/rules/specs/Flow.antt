@@ -1,4 +1,4 @@
--- Demand 3 in two statements. `only_when` (Proofs/OnlyWhen) and `exactly_when` (Proofs/ExactlyWhen) prove them.
+-- Demand 3 in two statements. `only_when` (proofs/OnlyWhen) and `exactly_when` (proofs/ExactlyWhen) prove them.
 -- A list of calls is of any length, each call any four bytes, accepted or refused. It starts from the fresh facility of the set-up `s`.
 use Rattle.std.specs.Prelude.{ℕ, ◌<◌, ◌≡◌, ◌≢◌, ◌↔◌, Bool, true, false, List, [], ◌∷◌, ltb, eqb}
 use Rattle.rules.specs.Types.{Switches, Call}

@@ -1,5 +1,5 @@
 -- What each module's answer depends on, and that no module but MAC changes what an accepted call does. `modules_apart` and `effects_apart`
--- (Proofs/ModulesApart) prove it.
+-- (proofs/ModulesApart) prove it.
 use Rattle.std.specs.Prelude.{◌≡◌, true, false}
 use Rattle.rules.specs.Types.{NotCared, Call, Facility}
 use Rattle.labels.specs.Decisions.{on}

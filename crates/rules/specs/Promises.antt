@@ -1,4 +1,4 @@
--- Demands 1 and 2, and Tickets 1, 2, 4 and 5, as statements over the definitions. Each is proved in the module of Proofs/ that its comment names.
+-- Demands 1 and 2, and Tickets 1, 2, 4 and 5, as statements over the definitions. Each is proved in the module of proofs/ that its comment names.
 use Rattle.answers.specs.declared.Outcome.TheVariants.{Refused}
 use Rattle.std.specs.Prelude.{ℕ, zero, suc, ◌+◌, ◌-◌, ◌≤◌, ◌<◌, min, ◌≡◌, ◌≢◌, Bool, true, false, not, cond, List, [], ◌∷◌, map, leb, ltb, eqb, length, set, take, drop}
 use Rattle.std.specs.Int.Bits.{bit_or}
@@ -21,7 +21,7 @@ use Rattle.rules.specs.Modules.{View, class_in}
 use Rattle.rules.specs.Matter.{union, Account, after_entry}
 use Rattle.rules.specs.Questions.{runs_of, in_range, is_running, is_free, open_for, number_by, number}
 
--- Demand 1 (Proofs/Refusals): what a call that is not accepted leaves. (That query gives what enforce would is in the definition of `enforce`.)
+-- Demand 1 (proofs/Refusals): what a call that is not accepted leaves. (That query gives what enforce would is in the definition of `enforce`.)
 pub record Refusals : Type 0 where
   -- everything but the counters is as it was
   pub unchanged : (f : Facility) (c : Call) → accepted f c ≡ false → after f c ≡ put_refusals f (after f c).refusals
@@ -49,7 +49,7 @@ unfoldable pub sum_to : ℕ → (ℕ → ℕ) → ℕ
 sum_to zero g = 0
 sum_to (suc n) g = sum_to n g + g n
 
--- Ticket 1, refusals by user (Proofs/Counters), after every list from a fresh facility.
+-- Ticket 1, refusals by user (proofs/Counters), after every list from a fresh facility.
 pub record CountersCount : Type 0 where
   -- each user's counter is the number of 12s and 13s of calls whose caller that user owned, up to its own stop
   pub each : (s : List ℕ) (cs : List Call) (u : ℕ) → u < most_users
@@ -85,7 +85,7 @@ passes_to9 k v c =
     and asked (needs_object k c.extra) (not (is_absent (class_in v c)))
     and asked (needs_object k c.extra) (asked (is_no_condition (class_in v c)) (open_for v c))
 
--- Object numbers (Proofs/ObjectNumbers).
+-- Object numbers (proofs/ObjectNumbers).
 pub record ObjectNumbers : Type 0 where
   -- at most 128 are entered
   pub most : (s : List ℕ) (cs : List Call) → (run (fresh s) cs).entered ≤ most_objects
@@ -106,7 +106,7 @@ of_kind k (r ∷ rs) = cond (eqb r.kind k) (r ∷ of_kind k rs) (of_kind k rs)
 abbrev pub objects_entered : Facility → List Object
 objects_entered f = listed f.entered every (object_of f)
 
--- The fresh facility, by the bytes of the set-up (Proofs/FreshFacilities).
+-- The fresh facility, by the bytes of the set-up (proofs/FreshFacilities).
 pub record FreshFacilities : Type 0 where
   -- the switches are those of the one record of kind 3; user n and object n those of the record of kind 1, and 2, with n of its kind before it
   pub switches : (s : List ℕ) → accepted_setup s ≡ true → switches_of (fresh s) ∷ [] ≡ map switches_entered (of_kind switches_record_kind (records_in s))
@@ -119,12 +119,12 @@ pub record FreshFacilities : Type 0 where
   pub closed : (s : List ℕ) (p t : ℕ) → opens_of (fresh s) p t ≡ 0
   pub uncounted : (s : List ℕ) (u : ℕ) → refusals_of (fresh s) u ≡ 0
 
--- What the set-up fixes (Proofs/Leaves): no call changes a switch, nor a user's clearance, role or trust.
+-- What the set-up fixes (proofs/Leaves): no call changes a switch, nor a user's clearance, role or trust.
 pub record UsersStay : Type 0 where
   pub switches : (s : List ℕ) (cs : List Call) → switches_of (run (fresh s) cs) ≡ switches_of (fresh s)
   pub users : (s : List ℕ) (cs : List Call) → users_of (run (fresh s) cs) ≡ users_of (fresh s)
 
--- "An object's level after a list is what the set-up and the rules give it; a deleted object keeps its last" (Proofs/LabelsStay).
+-- "An object's level after a list is what the set-up and the rules give it; a deleted object keeps its last" (proofs/LabelsStay).
 pub record LabelsStay : Type 0 where
   -- an object of the set-up has the label of its record
   pub entered : (s : List ℕ) (cs : List Call) (t : ℕ) → t < (fresh s).entered → label_of (run (fresh s) cs) t ≡ label_of (fresh s) t
@@ -146,7 +146,7 @@ pub record ReadBack (f : Facility) : Type 0 where
   pub allowed : accepted_setup (setup_bytes f) ≡ true
   pub same : SameSetup f (fresh (setup_bytes f))
 
--- Set-ups (Proofs/RoundTrips).
+-- Set-ups (proofs/RoundTrips).
 pub record RoundTrips : Type 0 where
   -- a set-up that is read and written out gives the same bytes
   pub written : (s : List ℕ) → accepted_setup s ≡ true → setup_bytes (fresh s) ≡ s
@@ -169,7 +169,7 @@ pub record Untouched (x : Writing) (l : List ℕ) : Type 0 where
   pub long : write_length x.outcome ≡ 0
   pub buffer : x.buffer ≡ l
 
--- Set-ups in a caller's lent buffer (Proofs/RoundTrips).
+-- Set-ups in a caller's lent buffer (proofs/RoundTrips).
 pub record LentRoundTrips : Type 0 where
   -- of every facility: what a buffer that holds it all gets, and that a shorter one gets nothing
   pub room : (f : Facility) (l : List ℕ) → length (setup_bytes f) ≤ length l → Lent (write_setup f l) (setup_bytes f) l
@@ -180,7 +180,7 @@ pub record LentRoundTrips : Type 0 where
   pub read : (s : List ℕ) (cs : List Call) (l : List ℕ) → length (setup_bytes (run (fresh s) cs)) ≤ length l
       → SameSetup (run (fresh s) cs) (fresh (take (write_length (write_setup (run (fresh s) cs) l).outcome) (write_setup (run (fresh s) cs) l).buffer))
 
--- Ticket 2, file flags (Proofs/Inheritance).
+-- Ticket 2, file flags (proofs/Inheritance).
 pub record Inheritance : Type 0 where
   -- effective flags are the own ones and, with add-inherited, the parent's effective ones without no-delete
   pub effectively : (x : Objects) (t : ℕ)
@@ -199,7 +199,7 @@ pub record Inheritance : Type 0 where
   -- an object has a flag exactly when there is an object that it comes from, whose own it is
   pub sourced : (x : Objects) (t m : ℕ) → t < most_objects → has m (effective x t) ≡ not (eqb (flag_source x t m) no_object)
   pub own : (x : Objects) (t m : ℕ) → has m (effective x t) ≡ true → has m (flags_of x (flag_source x t m)) ≡ true
-  -- flags forbid what one of them forbids (Examples/FileFlags has what each does)
+  -- flags forbid what one of them forbids (proofs/Examples/FileFlags has what each does)
   pub each : (v request : ℕ) (k : Class) (kind : ℕ) → forbids v request k kind
       ≡ (has read_only v and forbids read_only request k kind or has no_execute v and forbids no_execute request k kind
       or has no_delete v and forbids no_delete request k kind or has search_only v and forbids search_only request k kind)
@@ -225,7 +225,7 @@ with_read_mark_raised f p =
 abbrev pub account_by : Account → Facility → Call → Account
 account_by a f c = after_entry a (record { call = c; accepted = accepted f c })
 
--- Ticket 4, signals with a value (Proofs/Signals): an accepted signal, from any facility and with any account.
+-- Ticket 4, signals with a value (proofs/Signals): an accepted signal, from any facility and with any account.
 pub record Signals : Type 0 where
   -- with MAC on, the read mark of a receiver whose owner is not trusted becomes its current label, and nothing else changes
   pub raises : (f : Facility) (c : Call) → AcceptedSignal f c → on f.mac ≡ true → trusted_user f (receiver_owner f c) ≡ false
@@ -243,7 +243,7 @@ pub record Signals : Type 0 where
       → (account_by a f c).processes p ≡ a.processes p
   pub objects : (a : Account) (f : Facility) (c : Call) → AcceptedSignal f c → (account_by a f c).objects ≡ a.objects
 
--- Ticket 5, how often a level moves (Proofs/MovesCounted), of each process that runs after a list from a fresh facility.
+-- Ticket 5, how often a level moves (proofs/MovesCounted), of each process that runs after a list from a fresh facility.
 pub record Moves : Type 0 where
   -- the number that it carries is that of the moves in its history
   pub counted : (s : List ℕ) (cs : List Call) (p : ℕ) → runs (run (fresh s) cs) p ≡ true
