@@ -1,15 +1,17 @@
--- The front of a buffer: the bytes that are kept there.
-use Prim.Native.Nat.{ℕ, zero, suc, ◌≤◌, ◌<◌, min}
+-- The front of a buffer: the bytes that are kept there, and what a read behind them is told as.
+use Prim.Native.Nat.{ℕ, zero, suc, ◌+◌, ◌-◌, ◌≤◌, ◌<◌, min}
 use mathlib.Core.Bool.{Bool, true, false, cond}
 use mathlib.Core.Path.{◌≡◌, refl, ap, ◌∙◌, sym}
-use mathlib.Core.List.{List, [], ◌∷◌}
+use mathlib.Core.List.{List, [], ◌∷◌, ◌++◌}
 use lib.Dec.{ltb}
-use lib.ListN.{length, take, set, length-take, length-set}
-use lib.Seq.{take-nil}
+use lib.IntN.{ℤ}
+use lib.ListN.{length, take, set, length-take, length-drop, length-set}
+use lib.Seq.{length-take-le, take-append-le, take_all, take-nil}
 use native.Mathlib.Omega.{arith}
+use borrow.Rule.Slice.PartMut.{mid_of, put_mid, same_len_mid}
 use borrow.Author.Tests.{lt-ltb, le-ltb}
 use Rattle.console.specs.declared.Kept.{Kept}
-use Rattle.console.specs.Files.{kept_bytes, kept_in}
+use Rattle.console.specs.Files.{CallsRead, bytes_said, failure_said, kept_bytes, kept_from, kept_in, more_said, whole_calls}
 
 pub kept_count : (k : Kept) → length (kept_bytes k) ≡ min k.count 3
 unfolding kept_bytes
@@ -52,3 +54,36 @@ kept_stored l k n e h =
     let d : 4 ≤ length m = simp length-set (omega arith) in
     let i = all_in k m d in
     (e ∙ sym (kept_count k) ∙ sym (ap length i), ap (λ (x : ℕ). take x m) e ∙ stored l k h ∙ sym i)
+
+-- a read behind the first bytes of a buffer leaves these
+pub front : (n : ℕ) (l x : List ℕ) → n ≤ length l → take n (take n l ++ x) ≡ take n l
+front n l x h = let e = length-take-le n l h in take-append-le n (take n l) x (omega arith) ∙ take_all n (take n l) (omega arith)
+
+-- and the part behind them keeps its length
+pub behind : (l p : List ℕ) (a : ℕ) → length p ≡ length (mid_of a (length l - a) l)
+    → length (mid_of a (length (put_mid a (length l - a) l p) - a) (put_mid a (length l - a) l p)) ≡ length (mid_of a (length l - a) l)
+behind l p a h = let e = same_len_mid a (length l - a) l p h in simp (length-take, length-drop, e) (omega arith)
+
+-- What a read of calls is told as, from what the code has at hand.
+pub calls_read : (k : Kept) (l m : List ℕ) (n total lined : ℕ) (kept : Kept) (more failed : Bool) (s z : ℤ)
+    → n ≡ length (kept_in k l) → take n l ≡ kept_in k l → length m ≡ length l
+    → total ≤ length m → total ≡ min n (length m) + bytes_said s → take n m ≡ take n l → z ≡ s
+    → more ≡ more_said z → lined ≡ whole_calls total more → kept ≡ kept_from m lined total → failed ≡ failure_said z
+    → CallsRead k m (record { lined = lined; kept = kept; more = more; failed = failed; said = z })
+calls_read k l m n total lined kept more failed s z count begins same within counted front e moreIs linedIs keptIs failedIs =
+    let i : kept_in k m ≡ kept_in k l = ap (λ (x : ℕ). cond (ltb x 4) [] (kept_bytes k)) same in
+    let j : length (kept_in k m) ≡ n = ap length i ∙ sym count in
+    let b = ap length begins in
+    let t = length-take n l in
+    let d = ap bytes_said e in
+    let q : total ≡ length (kept_in k m) + bytes_said z = omega arith in
+    let w : lined ≡ whole_calls (length (kept_in k m) + bytes_said z) (more_said z) =
+    linedIs ∙ ap (λ (x : Bool). whole_calls total x) moreIs ∙ ap (λ (x : ℕ). whole_calls x (more_said z)) q in
+    let v : kept ≡ kept_from m (whole_calls (length (kept_in k m) + bytes_said z) (more_said z)) (length (kept_in k m) + bytes_said z) =
+    keptIs ∙ ap (λ (x : ℕ). kept_from m x total) w
+    ∙ ap (λ (x : ℕ). kept_from m (whole_calls (length (kept_in k m) + bytes_said z) (more_said z)) x) q in
+    record {
+      begins = ap (λ (x : ℕ). take x m) j ∙ front ∙ begins ∙ sym i;
+      within = omega arith;
+      told = λ x. record { lined = w x; kept = v x; more = moreIs x; failed = failedIs x; said = z };
+    }
