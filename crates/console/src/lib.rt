@@ -10,12 +10,16 @@ ghost use Rattle.console.specs.Files.{CallsRead, WholeFile, kept_from, kept_in, 
 ghost use Rattle.console.specs.Files.{Moved, bytes_said, failure_said, more_said, whole_calls, written_of};
 
 use rules::Reading;
+use std::fmt::InlineText;
 use std::io::{Eprint, Error, ErrorKind, Print, Read};
 use std::rt::Files;
 use std::{fs, thread};
 
 // More than a program can try: a proved loop has to end.
 const TRIES: u64 = 1 << 53;
+
+// Room for what is told of an error; the longest that a system says of one is far below.
+const TOLD: usize = 256;
 
 // What a read came to: how many bytes the front of the buffer has now, and what the system said. Where the buffer was full, and nothing was asked of the
 // system, that is 0, as for a read of no bytes.
@@ -84,9 +88,19 @@ fn again(error: &Error) -> bool {
     }
 }
 
+// std puts the number of an error behind what the system says of it; the programs tell the latter alone.
+fn without_number(text: &str) -> &str {
+    match text.rsplit_once(" (os error ") {
+        Some((said, _)) => said,
+        None => text,
+    }
+}
+
 // Tells on standard error what failed and why. Where that fails too, nothing is left to tell it on.
 fn fail<R: Eprint>(rt: &R, what: &str, error: &Error) {
-    let _ = eprintln!(rt; "{what}: {error}");
+    let told = InlineText::<TOLD>::of(*error);
+    let why = without_number(told.as_str());
+    let _ = eprintln!(rt; "{what}: {why}");
 }
 
 // Whether there may be more, and whether it failed, by what the system said of a read.
