@@ -48,16 +48,17 @@ def kinds_in(lines):
 
 def is_law_module(path):
     """What stands in such a module is counted with the laws, whatever it is."""
-    return bool(re.search("/specs/(Laws|Proofs)/|/proofs/[^/]*$", path))
+    return bool(re.search("/specs/(Laws|Proofs)/|/proofs/[^/]*$|/proofs/(Laws|Examples)/", path))
 
 
 def is_function_proof(path):
-    return bool(re.search("/proofs/[^/]+/", path))
+    return bool(re.search("/proofs/[^/]+/", path)) and not is_law_module(path)
 
 
 def spec_lines(crate):
     definitions = laws = 0
-    for path in files(crate, "specs", "**", "*.antt") + files(crate, "proofs", "*.antt"):
+    modules = [path for path in files(crate, "proofs", "**", "*.antt") if is_law_module(path)]
+    for path in files(crate, "specs", "**", "*.antt") + modules:
         found = [kind for kind in kinds_in(read(path)) if kind]
         here = 0 if is_law_module(path) else found.count("definition")
         definitions, laws = definitions + here, laws + len(found) - here
@@ -68,7 +69,7 @@ def crates():
     """The crates of crates.txt, each behind those that it needs."""
     needs = {}
     for line in read(os.path.join(ROOT, "crates.txt")):
-        match = re.match(r"(\w+):(.*)", line)
+        match = re.match(r"(\w+)(?: staticlib)?:(.*)", line)
         if match:
             needs[match.group(1)] = match.group(2).split()
     order = []
