@@ -1,0 +1,2 @@
+-- Laws of unfinished opens.
+pub mod Unfinished

@@ -1,0 +1,3 @@
+-- Definitions: unfinished opens.
+pub mod Unfinished
+pub mod Laws
