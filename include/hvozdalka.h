@@ -193,7 +193,7 @@ typedef struct hv_facility {
 } hv_facility;
 
 /* A call: request, process p, target t, extra e, and the seat that process p is at. There is one seat, 0. Another has no process, so that a call of it is
- * refused with HV_NO_PROCESS_NUMBER, or with HV_NO_REQUEST, and changes nothing. [callOf, hvozdalka/Numbers; OtherSeats, hvozdalka/Seats] */
+ * refused with HV_NO_PROCESS_NUMBER, or with HV_NO_REQUEST, and changes nothing. [call_of, hvozdalka/Numbers; OtherSeats, hvozdalka/Seats] */
 typedef struct hv_call { uint8_t request, process, target, extra, seat; } hv_call;
 
 /* What a call came to: refusal number, answers of MAC, FC and SIM, the combination of all four modules' answers, the object that an accepted
@@ -232,16 +232,16 @@ typedef struct hv_process_record { uint8_t running, owner; hv_label current, rea
 typedef struct hv_object_record { uint8_t live, kind; hv_label label; uint8_t category, datatype, flags, parent; } hv_object_record;
 typedef struct hv_summary_record { uint8_t mac, fc, sim, users, entered, ff; } hv_summary_record;
 
-/* ON A FACILITY WHERE IT IS, without a copy. Its bytes are the facility of the definitions [facilityAt, in_place/Layout]; where one is changed, its bytes
+/* ON A FACILITY WHERE IT IS, without a copy. Its bytes are the facility of the definitions [facility_at, in_place/Layout]; where one is changed, its bytes
  * become those of the next, and the six bytes of padding are untouched. */
 
 /* Reads a set-up into a facility. Number 0 and the fresh facility; or the number 14 to 17 or 19, the index of the record refused (0 with 14), and the
- * facility of a switches record with all off. [readSetup, rules/Setup] */
+ * facility of a switches record with all off. [read_setup, rules/Setup] */
 hv_setup_numbers hv_read_setup_at(const uint8_t *bytes, size_t length, hv_facility *f);
 
 /* Writes a facility's set-up into `out`: switches, users, live objects in order, each with its parent by the new number (0 where the parent
  * was deleted). Number 0 and the length, and later bytes are untouched; or number 18 and length 0 where `out` is too short, and it is
- * untouched. `out` has no byte of the facility. [writeSetup, rules/Setup] */
+ * untouched. `out` has no byte of the facility. [write_setup, rules/Setup] */
 hv_writing hv_write_setup_at(const hv_facility *f, uint8_t *out, size_t length);
 
 /* What hv_enforce_at would answer; nothing changes. [query, rules/Calls] */
@@ -253,32 +253,32 @@ hv_outcome hv_query_at(const hv_facility *f, hv_call call);
 hv_outcome hv_enforce_at(hv_facility *f, hv_call call);
 
 /* Which conditions fail where this call is refused with 12 or 13; all false and flag 0 with any other number. It may be asked before the refused call or
- * after it, which changes none of them. [failedOf, reasons/Reasons] */
+ * after it, which changes none of them. [failed_of, reasons/Reasons] */
 hv_failed hv_why_at(const hv_facility *f, hv_call call);
 
 /* The same in words, each as ` (label not under the clearance)` or ` (read-only of object 3)`, at the front of `out`: how many bytes; what does not fit
- * is cut off, and HV_WHY_MOST hold any. [whyText, names/Reasons] */
+ * is cut off, and HV_WHY_MOST hold any. [why_text, names/Reasons] */
 size_t hv_why_words_at(const hv_facility *f, hv_call call, uint8_t *out, size_t length);
 
 /* The lines that the run program prints for a block of calls of four bytes each, the first of which has index `first`, stored at the front of `out`, and
  * the facility becomes the one after them: how many bytes the lines have. What does not fit is cut off: HV_LINE_MOST for each call and HV_SHORT_MOST
- * hold it all. Where `first` is 2^63 or more no call is made. [blockText, facilityAfter, lines/Blocks] */
+ * hold it all. Where `first` is 2^63 or more no call is made. [block_text, facility_after, lines/Blocks] */
 size_t hv_put_block_at(hv_facility *f, uint64_t first, const uint8_t *calls, size_t calls_length, uint8_t *out, size_t out_length);
 
 /* A call and its line in words, with its newline, at the front of `out`, which has HV_WORDS_ROOM bytes; the facility becomes the one after the call: how
  * many bytes the line has. The first is the full line, which the program run_words prints; the second the short one: what was asked, what it came to, why
- * not, and what changed. [sentence, words/Sentences; shortSentence, words/Short; after, rules/Calls] */
+ * not, and what changed. [sentence, words/Sentences; short_sentence, words/Short; after, rules/Calls] */
 size_t hv_put_words_at(hv_facility *f, uint64_t index, hv_call call, uint8_t *out);
 size_t hv_put_short_words_at(hv_facility *f, uint64_t index, hv_call call, uint8_t *out);
 
 /* A user, a process, an object; all fields are 0 for a number that is none. A process's `moves` is how often its current label moved by itself, at
- * most hv_most_moves_at of its owner after any calls from a fresh facility. [userOf, processOf, objectOf, state/State] */
+ * most hv_most_moves_at of its owner after any calls from a fresh facility. [user_of, process_of, object_of, state/State] */
 hv_user_record hv_user_at(const hv_facility *f, uint8_t user);
 hv_process_record hv_process_at(const hv_facility *f, uint8_t process);
 hv_object_record hv_object_at(const hv_facility *f, uint8_t object);
 
 /* How often the current label of a process of that user moves by itself at most: the level of the user's clearance plus its number of categories
- * plus 1; 1 for a number that is none. [movesBound, rules/Histories, of clearanceOf, state/State] */
+ * plus 1; 1 for a number that is none. [moves_bound, rules/Histories, of clearance_of, state/State] */
 uint32_t hv_most_moves_at(const hv_facility *f, uint8_t user);
 
 /* The effective flags of object t, whether FF is on or off: its own and, with HV_ADD_INHERITED among these, the effective ones of its parent
@@ -286,17 +286,17 @@ uint32_t hv_most_moves_at(const hv_facility *f, uint8_t user);
 uint8_t hv_effective_flags_at(const hv_facility *f, uint8_t t);
 
 /* Where object t has a flag from, one of hv_flag: the number of the object whose own flag it is, t itself or the nearest object up the chain;
- * HV_NO_OBJECT where the flag is not among t's effective ones. [flagSource, rules/FileFlags] */
+ * HV_NO_OBJECT where the flag is not among t's effective ones. [flag_source, rules/FileFlags] */
 uint8_t hv_flag_source_at(const hv_facility *f, uint8_t t, uint8_t flag);
 
-/* How a process has an object open: 1 for reading, 2 for writing, 3 for both, else 0; 0 for a number that is none. [openMarks, hvozdalka/Numbers] */
+/* How a process has an object open: 1 for reading, 2 for writing, 3 for both, else 0; 0 for a number that is none. [open_marks, hvozdalka/Numbers] */
 uint8_t hv_open_marks_at(const hv_facility *f, uint8_t process, uint8_t object);
 
 /* How many calls were refused with 12 or 13 whose caller the user owned when the call was made, up to 4,294,967,295; 0 for a number that is
- * none. While no user's is there, the sixteen add up to all 12s and 13s. [refusalsOf, state/State] */
+ * none. While no user's is there, the sixteen add up to all 12s and 13s. [refusals_of, state/State] */
 uint32_t hv_refusals_at(const hv_facility *f, uint8_t user);
 
-/* Switches, and how many users there are and objects were entered. [summaryOf, hvozdalka/Numbers] */
+/* Switches, and how many users there are and objects were entered. [summary_of, hvozdalka/Numbers] */
 hv_summary_record hv_summary_at(const hv_facility *f);
 
 /* THE SAME BY VALUE: of a facility that is handed in, and back where a call changes it. [the same definitions, of f] */
@@ -320,26 +320,26 @@ uint32_t hv_refusals(hv_facility f, uint8_t user);
 hv_summary_record hv_summary(hv_facility f);
 
 /* OF LISTS OF CALLS. The facility of a set-up after calls of four bytes each; one to three left-over bytes are no call. Number and index are those of
- * hv_read_setup: with a refused set-up the calls are made on a facility with all switches off. [replayNumbers, hvozdalka/Numbers] */
+ * hv_read_setup: with a refused set-up the calls are made on a facility with all switches off. [replay_numbers, hvozdalka/Numbers] */
 hv_reading hv_replay(const uint8_t *setup, size_t setup_length, const uint8_t *calls, size_t calls_length);
 
 /* Whether object x holds the matter of object c after the calls, and number and index as hv_replay. An accepted signal carries: its receiver holds what it
- * held and what the sender holds, with MAC on or off, whoever owns them, and what it writes later holds it too. [heldNumbers, hvozdalka/Numbers] */
+ * held and what the sender holds, with MAC on or off, whoever owns them, and what it writes later holds it too. [held_numbers, hvozdalka/Numbers] */
 hv_held hv_holds(const uint8_t *setup, size_t setup_length, const uint8_t *calls, size_t calls_length, uint8_t x, uint8_t c);
 
 /* The same account of matter, kept along with the calls instead of being worked out from all of them: of a fresh facility, after each call with whether it
- * was accepted (number 0), and whether object x holds the matter of c: after all calls what hv_holds answers. [startOf, stepOf, heldBy, matter/LedgerSteps;
- * held-exactly, matter/Laws/AfterCalls] */
+ * was accepted (number 0), and whether object x holds the matter of c: after all calls what hv_holds answers. [start_of, step_of, held_by, matter/LedgerSteps;
+ * held_exactly, matter/Laws/AfterCalls] */
 hv_account hv_account_start(hv_facility f);
 hv_account hv_account_step(hv_account account, hv_call call, bool accepted);
 bool hv_account_holds(hv_account account, uint8_t x, uint8_t c);
 
-/* WORDS. A refused set-up, with its newline, at the front of `out`, which has HV_WORDS_ROOM bytes: how many bytes. [setupSentence, words/Sentences] */
+/* WORDS. A refused set-up, with its newline, at the front of `out`, which has HV_WORDS_ROOM bytes: how many bytes. [setup_sentence, words/Sentences] */
 size_t hv_put_setup_words(uint8_t number, uint16_t index, uint8_t *out);
 
 /* The words for a request, a kind, an answer, a flag, a role, a category for FC and a data type, and what a refusal number says, at the front of `out`,
- * without a byte 0 behind them: how many bytes; what does not fit is cut off, and HV_WORD_MOST hold any. [requestWord, kindWord, answerWord, flagWord,
- * roleWord, categoryWord, dataTypeWord, numberWord, names/Words] */
+ * without a byte 0 behind them: how many bytes; what does not fit is cut off, and HV_WORD_MOST hold any. [request_word, kind_word, answer_word, flag_word,
+ * role_word, category_word, data_type_word, number_word, names/Words] */
 size_t hv_request_words(uint8_t request, uint8_t *out, size_t length);
 size_t hv_kind_words(uint8_t kind, uint8_t *out, size_t length);
 size_t hv_answer_words(uint8_t answer, uint8_t *out, size_t length);
@@ -350,14 +350,14 @@ size_t hv_category_words(uint8_t category, uint8_t *out, size_t length);
 size_t hv_data_type_words(uint8_t data_type, uint8_t *out, size_t length);
 
 /* A label in words, in the same way: its level, or `unset`, and behind it the letters of its categories or `all`, as `3`, `3 ab`, `15 all`; HV_LABEL_MOST
- * hold any. [labelWord, names/Words] */
+ * hold any. [label_word, names/Words] */
 size_t hv_label_words(hv_label label, uint8_t *out, size_t length);
 
 /* OF REQUESTS, without a facility. The class of a request on an object of this kind, one of hv_request_class; of a create in a directory the directory is
- * the object. [classCode of classOf, rules/Requests] */
+ * the object. [class_code of class_of, rules/Requests] */
 uint8_t hv_class(uint8_t request, uint8_t kind);
 
-/* Whether the target t of a request is an object; `extra` is the kind that a create makes. [needsObject of actionOf, rules/Requests] */
+/* Whether the target t of a request is an object; `extra` is the kind that a create makes. [needs_object of action_of, rules/Requests] */
 bool hv_needs_object(uint8_t request, uint8_t extra);
 
 /* WHAT THE LIBRARY WAS BUILT WITH: compare with HV_VERSION and HV_FACILITY_SIZE before anything else. */

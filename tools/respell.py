@@ -1,6 +1,8 @@
 #!/usr/bin/env python3
 """Brings the repository's own definitions and lemmas to today's spelling, snake case, after /opt/rattle/port/port.py; types and modules keep camel case.
 
+It fits the repository as it was at the port (666120f after port.py), and not as it stands now.
+
 usage: tools/respell.py          at the top of the repository, once
        tools/respell.py --list   what would be renamed, and which names would fall together
 
@@ -12,8 +14,7 @@ import os
 import re
 import sys
 
-DECLARED = re.compile(r"^\s*(?:abbrev\s+|unfoldable\s+)?(?:pub\s+)?((?:[a-z][\w'-]*,?\s+)*?[a-z][\w'-]*)\s+:\s")
-CLAUSE = re.compile(r"^\s*([a-z][\w'-]*)\s.*=(\s|$)")
+DECLARED = re.compile(r"^\s*(?:abbrev\s+|unfoldable\s+)?(?:pub\s+)?((?:[a-z][\w'-]*,?\s+)*?[a-z][\w'-]*)(?:\s+\{[^}]*\})?\s+:\s")
 TOKEN = re.compile(r"[A-Za-z_][\w'-]*")
 # Lemmas that would fall together with the definition that they are about, and examples with what they compute.
 EXAMPLES = "fc-rule sim-rule fresh-process numbers-given object-bytes user-bytes open-marks refused-setup trusted-logins".split()

@@ -8,7 +8,7 @@ use lib.Dec.{eqb}
 use native.Mathlib.Omega.{arith}
 use borrow.Author.Tests.{lt-ltb, le-leb, ne_eqb, eq-eqb}
 use Rattle.labels.specs.Decisions.{◌and◌, at, on}
-use Rattle.labels.proofs.Laws.Decisions.{by-test, by-eq}
+use Rattle.labels.proofs.Laws.Decisions.{by_test, by_eq}
 use Rattle.labels.proofs.Laws.Bits.{or_assoc, and_or, and_again}
 use Rattle.state.specs.State.{Objects}
 use Rattle.answers.specs.Outcomes.{no_object}
@@ -19,11 +19,11 @@ use Rattle.flags.specs.Lists.{inherits_from}
 -- whom t inherits from: none without a parent or with a later one, else by its flag and the parent's life
 pub from_none : (x : Objects) (t : ℕ) → parent_of x t ≡ 0 → 0 ≡ inherits_from x t
 unfolding inherits_from
-from_none x t e = by-test (inherits x t) (λ i. let n = parent_some x t (inheriting x t i) in absurd (n e)) (λ i. rw i)
+from_none x t e = by_test (inherits x t) (λ i. let n = parent_some x t (inheriting x t i) in absurd (n e)) (λ i. rw i)
 
 pub from_later : (x : Objects) (t : ℕ) → t < parent_of x t → 0 ≡ inherits_from x t
 unfolding inherits_from
-from_later x t l = by-test (inherits x t) (λ i. let b = giver_before x t i in absurd (omega arith)) (λ i. rw i)
+from_later x t l = by_test (inherits x t) (λ i. let b = giver_before x t i in absurd (omega arith)) (λ i. rw i)
 
 pub from_parent : (x : Objects) (t : ℕ) (b : Bool) → parent_of x t ≢ 0 → parent_of x t ≤ t
     → (has add_inherited (flags_of x t) and on (at x.lives (parent_of x t - 1))) ≡ b → cond b (parent_of x t) 0 ≡ inherits_from x t
@@ -34,7 +34,7 @@ from_parent x t b z l h =
 
 pub from_below : (x : Objects) (t : ℕ) → inherits_from x t ≤ t
 unfolding inherits_from
-from_below x t = by-test (inherits x t) (λ i. let b = giver_before x t i in rw i (omega arith)) (λ i. rw i (omega arith))
+from_below x t = by_test (inherits x t) (λ i. let b = giver_before x t i in rw i (omega arith)) (λ i. rw i (omega arith))
 
 -- what is inherited from n, as a number plus 1: the effective flags without no-delete
 abbrev pub rest : Objects → ℕ → ℕ
@@ -43,7 +43,7 @@ rest x n = cond (eqb n 0) 0 (without_no_delete (effective x (n - 1)))
 rest_from : (x : Objects) (t : ℕ) → cond (inherits x t) (without_no_delete (effective x (parent_of x t - 1))) 0 ≡ rest x (inherits_from x t)
 unfolding inherits_from
 rest_from x t =
-    by-test (inherits x t)
+    by_test (inherits x t)
     (λ i. rw (i, ne_eqb (parent_of x t) 0 (parent_some x t (inheriting x t i))))
     (λ i. rw i)
 
@@ -52,7 +52,7 @@ effective_rest x t = effective_is x t ∙ ap (bit_or (flags_of x t)) (rest_from 
 
 rest_without : (x : Objects) (n : ℕ) → without_no_delete (rest x n) ≡ rest x n
 rest_without x n =
-    by-eq n 0
+    by_eq n 0
     (λ e. rw (eq-eqb n 0 e) (and_zero_l 251))
     (λ z. rw (ne_eqb n 0 z) (and_again (effective x (n - 1)) 251))
 
@@ -76,12 +76,12 @@ pub source_up : (x : Objects) (t m : ℕ) → has m (flags_of x t) ≡ false →
 unfolding inherits_from
 source_up x t m h z =
     source_is x t m
-    ∙ by-test (inherits x t) (λ i. rw (h, i)) (λ i. absurd (z (rw i refl)))
+    ∙ by_test (inherits x t) (λ i. rw (h, i)) (λ i. absurd (z (rw i refl)))
 
 pub source_none : (x : Objects) (t m : ℕ) → has m (flags_of x t) ≡ false → inherits_from x t ≡ 0 → no_object ≡ flag_source x t m
 unfolding inherits_from
 source_none x t m h z =
     sym (source_is x t m
-    ∙ by-test (inherits x t)
+    ∙ by_test (inherits x t)
     (λ i. let e : parent_of x t ≡ 0 = rw i at z in absurd (parent_some x t (inheriting x t i) e))
     (λ i. rw (h, i)))

@@ -6,7 +6,7 @@ use mathlib.Core.Bool.{true, false, not}
 use lib.ListN.{length}
 use Rattle.state.specs.declared.Facility.{Facility}
 use Rattle.state.specs.State.{trusted_user}
-use Rattle.labels.proofs.Laws.Decisions.{by-test, clash}
+use Rattle.labels.proofs.Laws.Decisions.{by_test, clash}
 use Rattle.state.specs.declared.Call.{Call}
 use Rattle.rules.specs.Calls.{after}
 use Rattle.rules.specs.Histories.{run}
@@ -70,8 +70,8 @@ last_call setup calls c h =
 unraised' : (f : Facility) (c : Call) → AcceptedSignal f c → (on f.mac and not (trusted_user f (receiver_owner f c))) ≡ false → after f c ≡ f
 unfolding ◌and◌
 unraised' f c A h =
-    by-test (on f.mac)
-    (λ m. signals.trusted f c A (by-test (trusted_user f (receiver_owner f c)) (λ t. t) (λ t. clash refl (rw (m, t) at h))))
+    by_test (on f.mac)
+    (λ m. signals.trusted f c A (by_test (trusted_user f (receiver_owner f c)) (λ t. t) (λ t. clash refl (rw (m, t) at h))))
     (λ m. signals.off f c A m)
 
 pub last_call_replayed : LastCallReplayed

@@ -9,7 +9,7 @@ use lib.Seq.{get_or-set_same, get_or-set_other, ext_get_or}
 use native.Mathlib.Omega.{arith}
 use borrow.Author.Tests.{le-leb, lt-leb, lt-ltb, le-ltb, ltb-true, ltb-false}
 use Rattle.labels.specs.Decisions.{◌and◌, at}
-use Rattle.labels.proofs.Laws.Decisions.{and_i, by-eq, by-test}
+use Rattle.labels.proofs.Laws.Decisions.{and_i, by_eq, by_test}
 use Rattle.opens.specs.Laws.Opens.{length_build, at_build}
 use Rattle.opens.specs.Opens.{build}
 use Rattle.rules.proofs.Sound.{at_zeros}
@@ -31,7 +31,7 @@ below a b i h = rw (lt-leb a i h)
 
 above : (a b i : ℕ) → b ≤ i → (leb a i and ltb i b) ≡ false
 unfolding ◌and◌
-above a b i h = by-test (leb a i) (λ t. rw (t, le-ltb i b h)) (λ t. rw t)
+above a b i h = by_test (leb a i) (λ t. rw (t, le-ltb i b h)) (λ t. rw t)
 
 pub length_cleared : (s : List ℕ) (from to : ℕ) → length (cleared s from to) ≡ length s
 unfolding cleared
@@ -47,7 +47,7 @@ cleared_none s from =
     ext_get_or 0 s (cleared s from from) (sym (length_cleared s from from))
     (λ i h.
     let e : (leb from i and ltb i from) ≡ false =
-    by-test (ltb i from) (λ t. below from from i (ltb-true i from t)) (λ t. above from from i (ltb-false i from t)) in
+    by_test (ltb i from) (λ t. below from from i (ltb-true i from t)) (λ t. above from from i (ltb-false i from t)) in
     sym (at_cleared s from from i h ∙ rw e))
 
 pub cleared_more : (s : List ℕ) (from i : ℕ) → from ≤ i → i < length s → set (cleared s from i) i 0 ≡ cleared s from (i + 1)
@@ -57,11 +57,11 @@ cleared_more s from i f h =
     (λ j b.
     let m = length-set (cleared s from i) i 0 in
     let k : j < length s = omega arith in
-    by-eq j i
+    by_eq j i
     (λ e. rw e (get_or-set_same (cleared s from i) i 0 0 (omega arith)
     ∙ sym (at_cleared s from (i + 1) i h ∙ rw (inside from (i + 1) i f (omega arith)))))
     (λ d. get_or-set_other (cleared s from i) i j 0 0 d ∙ at_cleared s from i j k
-    ∙ by-test (ltb j i)
+    ∙ by_test (ltb j i)
     (λ t. let w = ltb-true j i t in rw (t, lt-ltb j (i + 1) (omega arith)))
     (λ t. let w = ltb-false j i t in rw (t, le-ltb j (i + 1) (omega arith)))
     ∙ sym (at_cleared s from (i + 1) j k)))
@@ -105,16 +105,16 @@ abbrev pub clear_fields : (ℕ → List ℕ) → ℕ → ℕ → ℕ → List �
 clear_fields g a b j = cond (leb a j and ltb j b) (replicate (size j) 0) (g j)
 
 up_to : (a j : ℕ) → a ≤ j → offset a ≤ offset j
-up_to a j h = by-eq a j (λ e. rw e (omega arith)) (λ d. let w = before a j (omega arith) in omega arith)
+up_to a j h = by_eq a j (λ e. rw e (omega arith)) (λ d. let w = before a j (omega arith) in omega arith)
 
 field_cleared : (s : List ℕ) (a b j : ℕ) → a ≤ b → offset b ≤ length s → field_of (cleared s (offset a) (offset b)) j ≡ clear_fields (field_of s) a b j
 field_cleared s a b j h l =
-    by-test (ltb j a)
+    by_test (ltb j a)
     (λ t.
     let q = ltb-true j a t in
     let w = before j a q in
     rw (below a b j q) (part_kept s (offset a) (offset b) (offset j) (size j) (λ i k. below (offset a) (offset b) (offset j + i) (omega arith))))
-    (λ t. by-test (ltb j b)
+    (λ t. by_test (ltb j b)
     (λ u.
     let p = ltb-false j a t in
     let q = ltb-true j b u in

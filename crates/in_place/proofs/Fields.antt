@@ -8,7 +8,7 @@ use lib.Seq.{sets, sets-eq, take-add, drop-drop}
 use lib.ListN.{length, drop_of_length-le, take, take-append-drop, drop}
 use native.Mathlib.Omega.{arith}
 use borrow.Author.Tests.{eq-eqb, ne_eqb, ltb-true, ltb-false}
-use Rattle.labels.proofs.Laws.Decisions.{by-eq, by-test}
+use Rattle.labels.proofs.Laws.Decisions.{by_eq, by_test}
 use Rattle.in_place.specs.Stores.{store_field, store_in, padding_in, Becomes}
 use Rattle.in_place.specs.Layout.{size, offset, field_of, whole_size, the_refusals, facility_at, the_mac, the_fc, the_sim, the_users, the_entered}
 use Rattle.in_place.specs.Layout.{facility_of, the_opens, the_padding, the_clearances, the_roles, the_trusts, the_lives, the_kinds, the_levels}
@@ -30,10 +30,10 @@ abbrev put_bytes : (ℕ → List ℕ) → ℕ → ℕ → List ℕ → ℕ → L
 put_bytes g k i l j = cond (eqb j k) (sets (g k) i l) (g j)
 
 one_more : (g : ℕ → List ℕ) (k i x : ℕ) (xs : List ℕ) (j : ℕ) → put_bytes (store_field g k i x) k (suc i) xs j ≡ put_bytes g k i (x ∷ xs) j
-one_more g k i x xs j = by-eq j k (λ e. rw (eq-eqb j k e, eq-eqb k k refl)) (λ e. rw (ne_eqb j k e))
+one_more g k i x xs j = by_eq j k (λ e. rw (eq-eqb j k e, eq-eqb k k refl)) (λ e. rw (ne_eqb j k e))
 
 bytes_put : (l s : List ℕ) (k i : ℕ) → i + length l ≤ size k → field_of (sets s (offset k + i) l) ≡ put_bytes (field_of s) k i l
-bytes_put [] s k i h = fun_ext (λ j. by-eq j k (λ e. rw (eq-eqb j k e) (ap (field_of s) e)) (λ e. rw (ne_eqb j k e)))
+bytes_put [] s k i h = fun_ext (λ j. by_eq j k (λ e. rw (eq-eqb j k e) (ap (field_of s) e)) (λ e. rw (ne_eqb j k e)))
 bytes_put (x ∷ xs) s k i h =
     let m = store_in s (offset k) (size k) i x in
     let q : suc (offset k + i) ≡ offset k + suc i = omega arith in
@@ -78,7 +78,7 @@ one_byte (x ∷ []) (y ∷ []) h k e = ap (λ (v : ℕ). v ∷ []) e
 -- a byte of a field is a byte
 field_byte : (m : List ℕ) (k i : ℕ) → ((j : ℕ) → at m j < 256) → at (field_of m k) i < 256
 field_byte m k i h =
-    by-test (ltb i (size k))
+    by_test (ltb i (size k))
     (λ t. let b = h (offset k + i) in let e = byte_in m (offset k) (size k) i (ltb-true i (size k) t) in omega arith)
     (λ t. let e = byte_past m (offset k) (size k) i (ltb-false i (size k) t) in omega arith)
 

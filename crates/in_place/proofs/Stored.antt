@@ -9,7 +9,7 @@ use lib.Seq.{set_out, get_or-set_same, get_or-set_other, ext_get_or}
 use native.Mathlib.Omega.{arith}
 use borrow.Author.Tests.{lt-ltb, le-ltb, eq-eqb, ne_eqb, ltb-true, ltb-false}
 use Rattle.in_place.specs.Stores.{store_in, store_field, padding, padding_in}
-use Rattle.labels.proofs.Laws.Decisions.{by-test, by-eq}
+use Rattle.labels.proofs.Laws.Decisions.{by_test, by_eq}
 use Rattle.in_place.specs.Layout.{part, size, offset, field_of, the_opens, the_entered}
 use Rattle.in_place.proofs.BytesOfParts.{byte_in}
 
@@ -24,11 +24,11 @@ store_past s from n i v h = rw (le-ltb i n h)
 pub store_short : (s : List ℕ) (from n i v : ℕ) → length s ≤ from + i → s ≡ store_in s from n i v
 unfolding store_in
 store_short s from n i v h =
-    by-test (ltb i n) (λ t. rw t (sym (set_out s (from + i) v h))) (λ t. rw t)
+    by_test (ltb i n) (λ t. rw t (sym (set_out s (from + i) v h))) (λ t. rw t)
 
 pub length_store : (s : List ℕ) (from n i v : ℕ) → length (store_in s from n i v) ≡ length s
 unfolding store_in
-length_store s from n i v = by-test (ltb i n) (λ t. rw t (length-set s (from + i) v)) (λ t. rw t)
+length_store s from n i v = by_test (ltb i n) (λ t. rw t (length-set s (from + i) v)) (λ t. rw t)
 
 -- a part of the bytes after a store within it, and outside it
 length_part : (s : List ℕ) (q v from n : ℕ) → length (part (set s q v) from n) ≡ length (part s from n)
@@ -52,7 +52,7 @@ part_inside s from n i v h =
     let k : from + j < length s = omega arith in
     let p : j < length (part s from n) = omega arith in
     sym (byte_in (set s (from + i) v) from n j m)
-    ∙ by-eq j i
+    ∙ by_eq j i
     (λ e. rw e (get_or-set_same s (from + i) v 0 (rw e at k) ∙ sym (get_or-set_same (part s from n) i v 0 (rw e at p))))
     (λ e. get_or-set_other s (from + i) (from + j) v 0 (λ z. e (omega arith)) ∙ byte_in s from n j m ∙ sym (get_or-set_other (part s from n) i j v 0 e)))
 
@@ -76,18 +76,18 @@ before j k h = let e : suc j + (k - suc j) ≡ k = omega arith in rw e at (apart
 field_at : (s : List ℕ) (k i v j : ℕ) → field_of (store_in s (offset k) (size k) i v) j ≡ store_field (field_of s) k i v j
 unfolding store_in
 field_at s k i v j =
-    by-test (ltb i (size k))
+    by_test (ltb i (size k))
     (λ t.
     let h = ltb-true i (size k) t in
-    rw t (by-eq j k
+    rw t (by_eq j k
     (λ e. rw (eq-eqb j k e, e) (part_inside s (offset k) (size k) i v h))
     (λ e. rw (ne_eqb j k e) (part_outside s (offset k + i) v (offset j) (size j)
-    (λ m b z. by-test (ltb j k)
+    (λ m b z. by_test (ltb j k)
     (λ u. let w = before j k (ltb-true j k u) in absurd (omega arith))
     (λ u. let x = ltb-false j k u in let y : k < j = omega arith in let w = before k j y in absurd (omega arith)))))))
     (λ t.
     let h = ltb-false i (size k) t in
-    rw t (by-eq j k
+    rw t (by_eq j k
     (λ e. rw (eq-eqb j k e, e) (sym (set_out (field_of s k) i v (let a = length-take (size k) (drop (offset k) s) in omega arith))))
     (λ e. rw (ne_eqb j k e))))
 

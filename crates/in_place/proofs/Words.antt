@@ -10,7 +10,7 @@ use lib.Seq.{get_or-set_same, get_or-set_other, ext_get_or}
 use native.Mathlib.Omega.{arith}
 use borrow.Author.Tests.{eq-eqb, ne_eqb}
 use Rattle.labels.specs.Decisions.{at}
-use Rattle.labels.proofs.Laws.Decisions.{by-eq}
+use Rattle.labels.proofs.Laws.Decisions.{by_eq}
 use Rattle.opens.specs.Laws.Opens.{length_build, at_build}
 use Rattle.state.specs.State.{most_users}
 use Rattle.in_place.specs.Layout.{word_at, words}
@@ -65,7 +65,7 @@ module _ (l : List ℕ) (i a b c d : ℕ) where
 word_stored : (l : List ℕ) (u a b c d j : ℕ) → 4 * u + 3 < length l
     → word_at (four l (4 * u) a b c d) j ≡ cond (eqb j u) (a + 256 * b + 65536 * c + 16777216 * d) (word_at l j)
 word_stored l u a b c d j h =
-    by-eq j u
+    by_eq j u
     (λ e. rw (eq-eqb j u e, e)
     (λ i. first l (4 * u) a b c d h i + 256 * second l (4 * u) a b c d h i + 65536 * third l (4 * u) a b c d h i
     + 16777216 * fourth l (4 * u) a b c d h i))
@@ -96,7 +96,7 @@ words_stored l u a b c d n e h w =
     let p = words_length (four l (4 * u) a b c d) in
     let x : j < most_users = omega arith in
     words_at (four l (4 * u) a b c d) j x ∙ word_stored l u a b c d j (omega arith)
-    ∙ by-eq j u
+    ∙ by_eq j u
     (λ q. rw (eq-eqb j u q, q) (w ∙ sym (get_or-set_same (words l) u n 0 (omega arith))))
     (λ q. rw (ne_eqb j u q) (sym (get_or-set_other (words l) u j n 0 q ∙ words_at l j x))))
 
@@ -114,7 +114,7 @@ same_words l r m n b d e =
     let x : u < most_users = omega arith in
     let w : word_at l u ≡ word_at r u = sym (words_at l u x) ∙ ap (λ (q : List ℕ). at q u) e ∙ words_at r u x in
     let f = four_bytes _ _ _ _ _ _ _ _ (b (4 * u)) (b (4 * u + 1)) (b (4 * u + 2)) (d (4 * u)) (d (4 * u + 1)) (d (4 * u + 2)) w in
-    by-eq (i % 4) 0 (λ q. let z : i ≡ 4 * u = omega arith in rw z f.0)
-    (λ q0. by-eq (i % 4) 1 (λ q. let z : i ≡ 4 * u + 1 = omega arith in rw z f.1)
-    (λ q1. by-eq (i % 4) 2 (λ q. let z : i ≡ 4 * u + 2 = omega arith in rw z f.2)
+    by_eq (i % 4) 0 (λ q. let z : i ≡ 4 * u = omega arith in rw z f.0)
+    (λ q0. by_eq (i % 4) 1 (λ q. let z : i ≡ 4 * u + 1 = omega arith in rw z f.1)
+    (λ q1. by_eq (i % 4) 2 (λ q. let z : i ≡ 4 * u + 2 = omega arith in rw z f.2)
     (λ q2. let z : i ≡ 4 * u + 3 = omega arith in rw z f.3))))

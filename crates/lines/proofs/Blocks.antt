@@ -25,7 +25,7 @@ use Rattle.state.specs.declared.Process.{Process}
 use Rattle.state.specs.State.{process_in, process_of}
 use Rattle.lines.specs.Blocks.{lines_of, facility_after, WholeByBlocks}
 use Rattle.rules.specs.Text.{ascii}
-use Rattle.labels.proofs.Laws.Decisions.{by-eq}
+use Rattle.labels.proofs.Laws.Decisions.{by_eq}
 
 -- What is left when the calls before byte i are printed: their lines, stored at `place`, make the whole.
 pub record Left (o : List ℕ) (first : ℕ) (f₀ : Facility) (calls : List ℕ) (out : List ℕ) (place index : ℕ) (f : Facility) (i : ℕ) : Type 0 where
@@ -150,7 +150,7 @@ is_short calls h = rw (ne_eqb (length calls % 4) 0 h)
 
 pub short_most : (calls : List ℕ) → length (short_line calls) ≤ 6
 short_most calls =
-    by-eq (length calls % 4) 0
+    by_eq (length calls % 4) 0
     (λ e. let d = ap length (not_short calls e) in omega arith)
     (λ n. let d = ap length (is_short calls n) in omega arith)
 

@@ -16,7 +16,7 @@ use Rattle.text.specs.Laws.Decimals.{byte_short, index_short, level_short}
 use Rattle.answers.specs.declared.Outcome.{Outcome}
 use Rattle.answers.specs.Answers.{code}
 use Rattle.answers.specs.Outcomes.{number_of, answers_of}
-use Rattle.labels.proofs.Laws.Decisions.{by-test}
+use Rattle.labels.proofs.Laws.Decisions.{by_test}
 
 -- it is the paper's
 pub line_is : (i : ℕ) (f : Facility) (c : Call)
@@ -46,7 +46,7 @@ line_short i c o running level hi hr hp ht he hn ha hl =
     let a0 = call_short i c hi hr hp ht he in
     let a5 = byte_short (number_of o) hn in
     let a6 = byte_short (code (answers_of o).combined) ha in
-    let a7 : length (level_part running level) ≤ 3 = by-test (on running) (λ t. rw (t, length) (level_short level hl)) (λ t. rw (t, length) (omega arith)) in
+    let a7 : length (level_part running level) ≤ 3 = by_test (on running) (λ t. rw (t, length) (level_short level hl)) (λ t. rw (t, length) (omega arith)) in
     let b1 = length-append (call_text i c) (field (number_of o)) in
     let b2 = length-append (call_text i c ++ field (number_of o)) (field (code (answers_of o).combined)) in
     let b3 = length-append (outcome_text i c o) (level_part running level) in

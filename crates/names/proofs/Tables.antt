@@ -9,7 +9,7 @@ use native.Mathlib.Nat.{mul-le-mul_right}
 use native.Mathlib.Omega.{arith}
 use borrow.Author.Tests.{eq-eqb, ne_eqb}
 use Rattle.labels.specs.Decisions.{at}
-use Rattle.labels.proofs.Laws.Decisions.{by-test}
+use Rattle.labels.proofs.Laws.Decisions.{by_test}
 use Rattle.names.specs.Tables.{size_in, trimmed, word_at}
 use Rattle.names.specs.Words.{word_in}
 
@@ -27,7 +27,7 @@ unfolding size_in
 size_at_most row zero = omega arith
 size_at_most row (suc n) =
     let h = size_at_most row n in
-    by-test (eqb (at row n) 32) (λ t. rw t (omega arith)) (λ t. rw t (omega arith))
+    by_test (eqb (at row n) 32) (λ t. rw t (omega arith)) (λ t. rw t (omega arith))
 
 pub at_most : (row : List ℕ) (n : ℕ) → n ≡ size_in row (length row) → n ≤ length row
 at_most row n e = let h = size_at_most row (length row) in omega arith

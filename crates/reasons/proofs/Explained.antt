@@ -3,7 +3,7 @@ use Rattle.std.specs.Prelude.{ℕ, ◌≡◌, refl, Bool, true, false, not, cond
 use Rattle.std.proofs.Common.{sym, ◌∙◌, ap, eqb-true}
 use Rattle.labels.specs.Decisions.{◌and◌, ◌or◌, on}
 use Rattle.labels.specs.Labels.{unset}
-use Rattle.labels.proofs.Laws.Decisions.{clash, by-test, or_none}
+use Rattle.labels.proofs.Laws.Decisions.{clash, by_test, or_none}
 use Rattle.answers.specs.declared.Answer.{Answer}
 use Rattle.answers.specs.declared.Answer.TheVariants.{NotCared, Granted, NotGranted, Undefined}
 use Rattle.answers.specs.declared.Answers.{Answers}
@@ -59,7 +59,7 @@ ff_defined true false = refl
 ff_defined false b = refl
 
 ff_refuses : (g : Bool) (n : ℕ) → is_not_granted (cond g (cond (not (eqb n 0)) NotGranted NotCared) NotCared) ≡ not (eqb (cond g n 0) 0)
-ff_refuses true n = by-test (eqb n 0) (λ e. rw e) (λ e. rw e)
+ff_refuses true n = by_test (eqb n 0) (λ e. rw e) (λ e. rw e)
 ff_refuses false n = refl
 
 -- whether a module with this switch looks at the call's object; what SIM guards, and the flag that forbids
@@ -158,7 +158,7 @@ judged_any : (v : View) (c : Call) → denies (number_by (action_of c.request) v
 unfolding answers answers_from sim_answer sim_rule ff_answer ff_rule
 judged_any v c d =
     let k = action_of c.request in
-    by-test (any_failed (failed_in k v c)) (λ h. h)
+    by_test (any_failed (failed_in k v c)) (λ h. h)
     (λ h. clash (none_failed (answers k v c) (failed_in k v c) (judged_told v c d)
     (sim_defined (seen c v.switches.sim) (guarded v c) (eqb v.owner.role 1)) (ff_defined (seen c v.switches.ff) (not (eqb (forbade v c) 0))) h)
     (judged k v c d).answer)
@@ -166,17 +166,17 @@ judged_any v c d =
 -- an outcome's answers: of a denied call and an accepted one those of the modules, else none
 denied_answers : (n : ℕ) (a : Answers) (o : ℕ) → denies n ≡ true → answers_of (outcome_of n a o) ≡ a
 unfolding outcome_of denies ◌or◌
-denied_answers n a o d = by-test (eqb n 0) (λ z. clash (rw (eqb-true n 0 z) at d) refl) (λ z. rw (z, d))
+denied_answers n a o d = by_test (eqb n 0) (λ z. clash (rw (eqb-true n 0 z) at d) refl) (λ z. rw (z, d))
 
 undenied_told : (n : ℕ) (a : Answers) (o : ℕ) → denies n ≡ false → (n ≡ 0 → Told a nothing_failed) → Told (answers_of (outcome_of n a o)) nothing_failed
 unfolding outcome_of passes
 undenied_told n a o d t =
-    by-test (eqb n 0) (λ z. rw z (t (eqb-true n 0 z))) (λ z. rw (z, d) (nothing_told not_cared refl refl refl refl))
+    by_test (eqb n 0) (λ z. rw z (t (eqb-true n 0 z))) (λ z. rw (z, d) (nothing_told not_cared refl refl refl refl))
 
 pub explained : (f : Facility) (c : Call) → Explained f c
 unfolding query failed_of failed_by ◌or◌
 explained f c =
-    by-test (denies (number f c))
+    by_test (denies (number f c))
     (λ d. record {
       told = rw (d, denied_answers _ _ _ d) (judged_told (view_of f c) c d);
       any = ap denies (query_number f c) ∙ d ∙ sym (rw d (judged_any (view_of f c) c d));

@@ -4,7 +4,7 @@ use Rattle.std.proofs.Common.{sym}
 use Rattle.labels.specs.declared.Label.{Label}
 use Rattle.labels.specs.Decisions.{◌and◌, ◌or◌, asked, on}
 use Rattle.labels.specs.Labels.{given, leq, same, join}
-use Rattle.labels.proofs.Laws.Decisions.{clash, by-test}
+use Rattle.labels.proofs.Laws.Decisions.{clash, by_test}
 use Rattle.answers.specs.declared.Answer.{Answer}
 use Rattle.answers.specs.declared.Answer.TheVariants.{Granted}
 use Rattle.answers.specs.Answers.{is_not_granted, is_undefined, grant}
@@ -93,8 +93,8 @@ class NoCondition l r clr h = granted
 object : (k : Class) (o : Object) (r : Process) (u : User) → not (is_absent k) ≡ true → Tells (mac_object k o r u) (object_failed k o r u)
 unfolding mac_object object_failed ◌or◌
 object k o r u h =
-    by-test (given o.label)
-    (λ g. by-test (on u.trusted) (λ t. rw (g, t) granted) (λ t. rw (g, t) (class k o.label r u.clearance h)))
+    by_test (given o.label)
+    (λ g. by_test (on u.trusted) (λ t. rw (g, t) granted) (λ t. rw (g, t) (class k o.label r u.clearance h)))
     (λ g. rw g (record { unset = refl; refuses = refl }))
 
 equal_told : (b : Bool) → b ≡ not (refusing (record { unset = false; fixed = false; clearance = false; writemark = false; readmark = false; receiver = not b }))
@@ -118,7 +118,7 @@ rule SendSignal v c n h = signal v.caller v.owner v.target.receiver
 rule SetLevel v c n h = sets (wanted c) v.caller v.owner.clearance
 rule Terminate v c n h = granted
 rule Create v c n h =
-    by-test (in_directory c.extra)
+    by_test (in_directory c.extra)
     (λ i. rw i (object (class_in v c) v.target.object v.caller v.owner (rw i at h))) (λ i. rw i granted)
 rule OnObject v c n h = object (class_in v c) v.target.object v.caller v.owner h
 rule Unknown v c n h = clash refl n
@@ -127,16 +127,16 @@ known : (r : ℕ) → leb r last_request ≡ true → eqb (action_code (action_o
 unfolding action_of
 known r h =
     rw h
-    (by-test (eqb r 2) (λ e. rw e) (λ e2. rw e2
-    (by-test (eqb r 4) (λ e. rw e) (λ e4. rw e4
-    (by-test (eqb r 16) (λ e. rw e) (λ e16. rw e16
-    (by-test (eqb r 17) (λ e. rw e) (λ e17. rw e17
-    (by-test (eqb r 18) (λ e. rw e) (λ e18. rw e18 (by-test (eqb r 21) (λ e. rw e) (λ e21. rw e21))))))))))))
+    (by_test (eqb r 2) (λ e. rw e) (λ e2. rw e2
+    (by_test (eqb r 4) (λ e. rw e) (λ e4. rw e4
+    (by_test (eqb r 16) (λ e. rw e) (λ e16. rw e16
+    (by_test (eqb r 17) (λ e. rw e) (λ e17. rw e17
+    (by_test (eqb r 18) (λ e. rw e) (λ e18. rw e18 (by_test (eqb r 21) (λ e. rw e) (λ e21. rw e21))))))))))))
 
 pub mac_told : (v : View) (c : Call) → leb c.request last_request ≡ true
     → asked (needs_object (action_of c.request) c.extra) (not (is_absent (class_in v c))) ≡ true
     → Tells (mac_answer (action_of c.request) v c) (mac_failed (action_of c.request) v c)
 unfolding mac_answer mac_failed ◌or◌
 mac_told v c n h =
-    by-test (on v.switches.mac)
+    by_test (on v.switches.mac)
     (λ m. rw m (rule (action_of c.request) v c (known c.request n) h)) (λ m. rw m (record { unset = refl; refuses = refl }))

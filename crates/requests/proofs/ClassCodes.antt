@@ -12,7 +12,7 @@ use Rattle.rules.specs.declared.Class.TheVariants.{Absent, Reads, Writes, Both, 
 use Rattle.requests.specs.ClassCodes.{class_named, digit_right, each, word_right}
 use Rattle.rules.specs.Requests.{class_code, last_request, last_kind, Listed, class_among, files, directories, channels, control_data, list_of, class_of}
 use Rattle.labels.specs.Decisions.{◌and◌}
-use Rattle.labels.proofs.Laws.Decisions.{and_l, and_r, by-eq, by-test}
+use Rattle.labels.proofs.Laws.Decisions.{and_l, and_r, by_eq, by_test}
 
 pub named_coded : (k : Class) → class_named (class_code k) ≡ k
 named_coded Absent = refl
@@ -37,10 +37,10 @@ not_listed r (x ∷ xs) h k =
 list_known : (kind : ℕ) → known (list_of kind) ≡ true
 unfolding list_of files directories channels control_data ◌and◌
 list_known kind =
-    by-test (eqb kind 0) (λ a. rw a) (λ a.
-    by-test (eqb kind 1) (λ b. rw (a, b)) (λ b.
-    by-test (eqb kind 2) (λ c. rw (a, b, c)) (λ c.
-    by-test (eqb kind 3) (λ d. rw (a, b, c, d)) (λ d. rw (a, b, c, d)))))
+    by_test (eqb kind 0) (λ a. rw a) (λ a.
+    by_test (eqb kind 1) (λ b. rw (a, b)) (λ b.
+    by_test (eqb kind 2) (λ c. rw (a, b, c)) (λ c.
+    by_test (eqb kind 3) (λ d. rw (a, b, c, d)) (λ d. rw (a, b, c, d)))))
 
 -- outside the table there is no class
 pub no_request_law : (r kind : ℕ) → last_request < r → class_of r kind ≡ Absent
@@ -59,7 +59,7 @@ no_kind r kind h =
 each_at : (f : ℕ → Bool) (n j : ℕ) → j < n → each f n ≡ true → f j ≡ true
 each_at f zero j h t = absurd (omega arith)
 each_at f (suc n) j h t =
-    by-eq j n (λ e. subst⁻¹ (λ (m : ℕ). f m ≡ true) e (and_l _ _ t))
+    by_eq j n (λ e. subst⁻¹ (λ (m : ℕ). f m ≡ true) e (and_l _ _ t))
     (λ d. let l : j < n = omega arith in each_at f n j l (and_r _ _ t))
 
 -- a digit of a right word is the code of its request and kind

@@ -2,7 +2,7 @@
 use Rattle.answers.specs.declared.SetupOutcome.TheVariants.{Accepted}
 use Rattle.std.specs.Prelude.{ℕ, suc, ◌+◌, ◌≤◌, ◌<◌, ◌≡◌, refl, ◌≢◌, true, List, [], ◌∷◌, ◌++◌, eqb, length}
 use Rattle.std.proofs.Common.{sym, ◌∙◌, ap, length-append, arith, eqb-true, le-leb, lt-ltb, eq-eqb, ne_eqb}
-use Rattle.labels.proofs.Laws.Decisions.{and_i, clash, by-test}
+use Rattle.labels.proofs.Laws.Decisions.{and_i, clash, by_test}
 use Rattle.rules.specs.Types.{Facility}
 use Rattle.rules.specs.Kinds.{SetupRecord, kind_of, place_of, count_of, fits, room, allowed, parent_fits, record_number}
 use Rattle.rules.specs.Setup.{enter_record, enter_all, is_accepted, together}
@@ -38,7 +38,7 @@ pub read_accepted : (past rs : List SetupRecord) (f : Facility) → is_accepted 
 unfolding enter_all
 read_accepted past [] f h = tt
 read_accepted past (r ∷ rs) f h =
-    by-test (eqb (record_number past r) 0)
+    by_test (eqb (record_number past r) 0)
     (λ e. (accepts past r (eqb-true _ _ e), read_accepted (r ∷ past) rs (enter_record f r) (rw e at h)))
     (λ e. clash (rw e at h) refl)
 

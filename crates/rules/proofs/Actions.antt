@@ -1,7 +1,7 @@
 -- What a request acts on, told by its code: the one place that goes through all of them.
 use Rattle.std.specs.Prelude.{ℕ, ◌≡◌, refl, true, cond, eqb}
 use Rattle.std.proofs.Common.{sym, ◌∙◌, ap, eqb-true}
-use Rattle.labels.proofs.Laws.Decisions.{by-test}
+use Rattle.labels.proofs.Laws.Decisions.{by_test}
 use Rattle.rules.specs.Requests.{Action, Login, Clone, SendSignal, SetLevel, Terminate, Create, OnObject, Unknown, action_of, action_code, on_object_code}
 use Rattle.rules.specs.Requests.{login_request, clone_request, create_request, is_login, is_clone, is_create, is_on_object, needs_object}
 
@@ -41,4 +41,4 @@ is_on_object_law k h = by_code k on_object_code h
 
 -- what needs an object is a create in a directory, or a request on an object
 pub needs {ℓ} : (k : Action) (e : ℕ) {A : Type ℓ} → needs_object k e ≡ true → (k ≡ Create → A) → (k ≡ OnObject → A) → A
-needs k e h f g = by-test (is_create k) (λ c. f (is_create_law k c)) (λ c. g (is_on_object_law k (rw c at h)))
+needs k e h f g = by_test (is_create k) (λ c. f (is_create_law k c)) (λ c. g (is_on_object_law k (rw c at h)))

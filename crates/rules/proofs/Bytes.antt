@@ -36,14 +36,14 @@ bytes_length [] = refl
 bytes_length (r ∷ rs) = let h = bytes_length rs in omega arith
 
 -- Lists.
-pub map-append {ℓ κ} : {A : Type ℓ} {B : Type κ} (g : A → B) (xs ys : List A) → map g (xs ++ ys) ≡ map g xs ++ map g ys
-map-append g [] ys = refl
-map-append g (x ∷ xs) ys = ap (λ l. g x ∷ l) (map-append g xs ys)
+pub map_append {ℓ κ} : {A : Type ℓ} {B : Type κ} (g : A → B) (xs ys : List A) → map g (xs ++ ys) ≡ map g xs ++ map g ys
+map_append g [] ys = refl
+map_append g (x ∷ xs) ys = ap (λ l. g x ∷ l) (map_append g xs ys)
 
-pub nothing-after {ℓ} : {A : Type ℓ} (xs : List A) → xs ++ [] ≡ xs
-nothing-after [] = refl
-nothing-after (x ∷ xs) = ap (λ l. x ∷ l) (nothing-after xs)
+pub nothing_after {ℓ} : {A : Type ℓ} (xs : List A) → xs ++ [] ≡ xs
+nothing_after [] = refl
+nothing_after (x ∷ xs) = ap (λ l. x ∷ l) (nothing_after xs)
 
-pub map-length {ℓ κ} : {A : Type ℓ} {B : Type κ} (g : A → B) (xs : List A) → length (map g xs) ≡ length xs
-map-length g [] = refl
-map-length g (x ∷ xs) = ap suc (map-length g xs)
+pub map_length {ℓ κ} : {A : Type ℓ} {B : Type κ} (g : A → B) (xs : List A) → length (map g xs) ≡ length xs
+map_length g [] = refl
+map_length g (x ∷ xs) = ap suc (map_length g xs)

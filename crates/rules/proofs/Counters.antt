@@ -3,7 +3,7 @@ use Rattle.std.specs.Prelude.{ℕ, zero, suc, ◌+◌, ◌≤◌, ◌<◌, min, 
 use Rattle.std.proofs.Common.{sym, ◌∙◌, ap, ap₂, arith, eqb-true, eq-eqb, ne_eqb}
 use Rattle.rules.specs.Types.{Call, Facility}
 use Rattle.labels.specs.Decisions.{◌and◌, at}
-use Rattle.labels.proofs.Laws.Decisions.{by-test, by-eq}
+use Rattle.labels.proofs.Laws.Decisions.{by_test, by_eq}
 use Rattle.answers.specs.Outcomes.{denies, number_of}
 use Rattle.state.specs.State.{Users, most_users, most_refusals, refusals_of}
 use Rattle.rules.specs.Calls.{owner_in, accepted, query, after_refusal, after}
@@ -27,13 +27,13 @@ call_refusals : (f : Facility) (c : Call) (u d o : ℕ) → u < most_users → S
 unfolding after after_refusal accepted ◌and◌
 call_refusals f c u d o b S w h =
     rw (query_number f c)
-    (by-test (eqb (number f c) 0)
+    (by_test (eqb (number f c) 0)
     (λ e.
     let n : number f c ≡ 0 = eqb-true _ _ e in
     let z = not_denied (number f c) (omega arith) in
     rw (e, z) (ap (λ (x : ℕ × Users × List ℕ). at x.2 u) (effect_untouched (action_of c.request) f c) ∙ omega arith))
-    (λ e. by-test (denies (number f c))
-    (λ k. rw (e, k, w k) (by-eq o u
+    (λ e. by_test (denies (number f c))
+    (λ k. rw (e, k, w k) (by_eq o u
     (λ q. rw (eq-eqb o u q, q) (counted_own f u S b ∙ one_more_law most_refusals (refusals_of f u) d h))
     (λ n. rw (ne_eqb o u n) (counted_other f o u (λ z. n (sym z)) ∙ omega arith))))
     (λ k. rw (e, k) (omega arith))))
@@ -77,7 +77,7 @@ sum_one : (n o : ℕ) → o < n → sum_to n (λ u. cond (eqb o u) 1 0) ≡ 1
 unfolding sum_to
 sum_one zero o h = absurd (omega arith)
 sum_one (suc n) o h =
-    by-eq o n
+    by_eq o n
     (λ e. rw (eq-eqb o n e, sum_none n o (omega arith)))
     (λ d. rw (ne_eqb o n d, sum_one n o (omega arith)))
 

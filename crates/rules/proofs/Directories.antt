@@ -7,12 +7,12 @@ use mathlib.Core.List.{List, [], ◌∷◌, ◌++◌, map}
 use native.Mathlib.Omega.{arith}
 use borrow.Author.Tests.{eq-eqb}
 use Rattle.labels.specs.Decisions.{at, on}
-use Rattle.labels.proofs.Laws.Decisions.{or_l, or_r, by-test, by-eq}
+use Rattle.labels.proofs.Laws.Decisions.{or_l, or_r, by_test, by_eq}
 use Rattle.state.specs.State.{Objects, object_in}
 use Rattle.rules.specs.Kinds.{SetupRecord, count_of, directory_among, parent_fits}
 use Rattle.rules.specs.Setup.{listed, object_record, new_number, new_parent, written_object}
 use Rattle.rules.proofs.Past.{count_same}
-use Rattle.rules.proofs.Bytes.{map-append, nothing-after}
+use Rattle.rules.proofs.Bytes.{map_append, nothing_after}
 use Rattle.rules.proofs.Parents.{lives, new_more, new_gone, new_below, parent_none, parent_live, parent_dead}
 use Rattle.rules.proofs.Fresh.{among_new, among_old}
 use Rattle.rules.proofs.Accepted.{onto, ParentsFit, parents_append}
@@ -27,11 +27,11 @@ first_records x n = map object_record (listed n (λ t. on (object_in x t).live) 
 
 one_more : (x : Objects) (n : ℕ) → lives x n → first_records x (suc n) ≡ first_records x n ++ (object_record (written_object x n) ∷ [])
 unfolding first_records listed object_in
-one_more x n v = rw v (map-append object_record (listed n (λ t. on (at x.lives t)) (written_object x)) (written_object x n ∷ []))
+one_more x n v = rw v (map_append object_record (listed n (λ t. on (at x.lives t)) (written_object x)) (written_object x n ∷ []))
 
 no_more : (x : Objects) (n : ℕ) → on (at x.lives n) ≡ false → first_records x (suc n) ≡ first_records x n
 unfolding first_records listed object_in
-no_more x n v = rw v (ap (map object_record) (nothing-after (listed n (λ t. on (at x.lives t)) (written_object x))))
+no_more x n v = rw v (ap (map object_record) (nothing_after (listed n (λ t. on (at x.lives t)) (written_object x))))
 
 none_yet : (x : Objects) → first_records x 0 ≡ []
 unfolding first_records listed
@@ -50,7 +50,7 @@ module _ (x : Objects) (past : List SetupRecord) (none : count_of 2 past ≡ 0) 
   unfolding new_number
   number_told zero = ap (λ (l : List SetupRecord). count_of 2 (onto past l)) (none_yet x) ∙ none
   number_told (suc n) =
-      by-test (on (at x.lives n))
+      by_test (on (at x.lives n))
       (λ v. ap (count_of 2) (with_live n v) ∙ count_same 2 _ _ refl ∙ ap (λ (k : ℕ). k + 1) (number_told n) ∙ sym (new_more x n v))
       (λ v. ap (count_of 2) (with_dead n v) ∙ number_told n ∙ sym (new_gone x n v))
 
@@ -59,14 +59,14 @@ module _ (x : Objects) (past : List SetupRecord) (none : count_of 2 past ≡ 0) 
   unfolding object_in
   directory_told zero t b v k = absurd (omega arith)
   directory_told (suc n) t b v k =
-      by-eq t n
+      by_eq t n
       (λ e. subst (λ (m : ℕ). directory_among (new_number x t) (onto past (first_records x (suc m))) ≡ true) e
       (ap (directory_among (new_number x t)) (with_live t v) ∙ among_new (new_number x t) _ _ refl (number_told t) ∙ eq-eqb _ 1 k))
       (λ z.
       let l : t < n = omega arith in
       let s = new_below x t n l v in
       let q = number_told n in
-      by-test (on (at x.lives n))
+      by_test (on (at x.lives n))
       (λ w. ap (directory_among (new_number x t)) (with_live n w) ∙ among_old (new_number x t) _ _ (λ c. absurd (omega arith)) ∙ directory_told n t l v k)
       (λ w. ap (directory_among (new_number x t)) (with_dead n w) ∙ directory_told n t l v k))
 
@@ -75,11 +75,11 @@ module _ (x : Objects) (past : List SetupRecord) (none : count_of 2 past ≡ 0) 
       → parent_fits (onto past (first_records x n)) (object_record (written_object x n)) ≡ true
   unfolding parent_fits object_in
   parent_fits_law n fit =
-      by-eq (at x.parents n) 0
+      by_eq (at x.parents n) 0
       (λ z. let e : new_parent x (at x.parents n) ≡ 0 = ap (new_parent x) z ∙ parent_none x in rw e (or_l _ _ refl))
       (λ z.
       let (b, k) = fit z in
-      by-test (on (at x.lives (at x.parents n - 1)))
+      by_test (on (at x.lives (at x.parents n - 1)))
       (λ v.
       let w : new_number x (at x.parents n - 1) + 1 - 1 ≡ new_number x (at x.parents n - 1) = omega arith in
       rw (parent_live x _ z v, w)
@@ -92,7 +92,7 @@ module _ (x : Objects) (past : List SetupRecord) (none : count_of 2 past ≡ 0) 
   parents_fit zero fit = subst⁻¹ (ParentsFit past) (none_yet x) tt
   parents_fit (suc n) fit =
       let h = parents_fit n (λ t b. fit t (omega arith)) in
-      by-test (on (at x.lives n))
+      by_test (on (at x.lives n))
       (λ v. subst⁻¹ (ParentsFit past) (one_more x n v)
       (parents_append past (first_records x n) _ h (parent_fits_law n (fit n (omega arith)), tt)))
       (λ v. subst⁻¹ (ParentsFit past) (no_more x n v) h)

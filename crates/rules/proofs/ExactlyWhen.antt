@@ -6,7 +6,7 @@ use mathlib.Core.List.{List, [], ◌∷◌}
 use borrow.Author.Tests.{ltb-true, leb-true, lt-ltb, eq-eqb}
 use Rattle.rules.specs.Types.{Call, Process, Facility}
 use Rattle.labels.specs.Decisions.{◌and◌, asked}
-use Rattle.labels.proofs.Laws.Decisions.{and_i, or_l, or_r, by-test, by-eq}
+use Rattle.labels.proofs.Laws.Decisions.{and_i, or_l, or_r, by_test, by_eq}
 use Rattle.state.specs.Laws.ReadBack.{process_other}
 use Rattle.state.specs.State.{switches_of, object_of, runs, trusted_user, label_of, clearance_of, put_process, fresh_process}
 use Rattle.opens.specs.Opens.{reading, writing}
@@ -67,16 +67,16 @@ module _ (u : ℕ) where
   plain_read : (kind t : ℕ) (rest : List Call) → ltb t 256 ≡ true → Plain u rest → Plain u (read_calls kind t rest)
   unfolding read_calls action_of
   plain_read kind t rest h P =
-      by-test (eqb kind 0) (λ e. rw e (plain_by 0 13 t _ refl refl refl h (plain_by 0 12 t _ refl refl refl h P)))
-      (λ e. by-test (eqb kind 1) (λ d. rw (e, d) (plain_by 0 12 t _ refl refl refl h P)) (λ d. rw (e, d) (plain_by 0 8 t _ refl refl refl h P)))
+      by_test (eqb kind 0) (λ e. rw e (plain_by 0 13 t _ refl refl refl h (plain_by 0 12 t _ refl refl refl h P)))
+      (λ e. by_test (eqb kind 1) (λ d. rw (e, d) (plain_by 0 12 t _ refl refl refl h P)) (λ d. rw (e, d) (plain_by 0 8 t _ refl refl refl h P)))
 
   plain_write : (p kind t : ℕ) → ltb p 256 ≡ true → ltb t 256 ≡ true → Plain u (write_calls p kind t)
   unfolding write_calls action_of
   plain_write p kind t l h =
       let P = plain_by p 19 t [] l refl refl h plain_none in
-      by-test (eqb kind 0) (λ e. rw e (plain_by p 20 t _ l refl refl h P))
-      (λ e. by-test (eqb kind 1) (λ d. rw (e, d) P)
-      (λ d. by-test (eqb kind 2) (λ g. rw (e, d, g) (plain_by p 14 t _ l refl refl h P))
+      by_test (eqb kind 0) (λ e. rw e (plain_by p 20 t _ l refl refl h P))
+      (λ e. by_test (eqb kind 1) (λ d. rw (e, d) P)
+      (λ d. by_test (eqb kind 2) (λ g. rw (e, d, g) (plain_by p 14 t _ l refl refl h P))
       (λ g. rw (e, d, g) (plain_by p 11 t [] l refl refl h plain_none))))
 
 -- a list by which y comes to hold the matter of x
@@ -132,7 +132,7 @@ module _ (f₀ : Facility) (F : Fresh f₀) (u x y : ℕ) (hx : x < f₀.entered
       → Reach f a (read_calls (object_of f₀ x).kind x rest) y x
   unfolding read_calls requests_computed mac_class passes move_by reading
   reach_read f a rest nx S self K =
-      by-eq (object_of f₀ x).kind 0
+      by_eq (object_of f₀ x).kind 0
       (λ e. rw e
       (reach_target 0 f₀ f a u (fresh_process u) 13 x Reads (Add 1) S
       (record { target = refl; known = refl; alive = F.whole x hx; class = rw e refl; there = refl; opened = refl; labelled = gx; granted = may_read_law })
@@ -150,7 +150,7 @@ module _ (f₀ : Facility) (F : Fresh f₀) (u x y : ℕ) (hx : x < f₀.entered
       })
       refl refl rest y x
       (λ S2. K _ _ S2 (carry_takes 0 _ 12 x NoCondition x refl (carry_keeps_object 0 a 13 x Reads x x self))))))
-      (λ n0. by-eq (object_of f₀ x).kind 1
+      (λ n0. by_eq (object_of f₀ x).kind 1
       (λ e. rw e
       (reach_target 0 f₀ f a u (fresh_process u) 12 x Reads Keep S
       (record { target = refl; known = refl; alive = F.whole x hx; class = rw e refl; there = refl; opened = refl; labelled = gx; granted = may_read_law })
@@ -168,7 +168,7 @@ module _ (f₀ : Facility) (F : Fresh f₀) (u x y : ℕ) (hx : x < f₀.entered
       → a.processes p x ≡ true → Reach f a (write_calls p (object_of f₀ y).kind y) y x
   unfolding write_calls requests_computed mac_class passes writing trusted_logins account history ◌and◌
   reach_write p f a r S may has =
-      by-eq (object_of f₀ y).kind 0
+      by_eq (object_of f₀ y).kind 0
       (λ e. rw e
       (reach_target p f₀ f a u r 20 y Writes (Add 2) S
       (record {
@@ -195,7 +195,7 @@ module _ (f₀ : Facility) (F : Fresh f₀) (u x y : ℕ) (hx : x < f₀.entered
       })
       refl refl [] y x
       (λ S2. record { untrusted = refl; holding = carry_gives p _ 19 y NoCondition x refl refl (carry_keeps p a 20 y Writes x has) }))))
-      (λ n0. by-eq (object_of f₀ y).kind 1
+      (λ n0. by_eq (object_of f₀ y).kind 1
       (λ e. rw e
       (reach_target p f₀ f a u r 19 y Writes Keep S
       (record {
@@ -210,7 +210,7 @@ module _ (f₀ : Facility) (F : Fresh f₀) (u x y : ℕ) (hx : x < f₀.entered
       })
       refl refl [] y x
       (λ S1. record { untrusted = refl; holding = carry_gives p a 19 y Writes x refl refl has })))
-      (λ n1. by-eq (object_of f₀ y).kind 2
+      (λ n1. by_eq (object_of f₀ y).kind 2
       (λ e. rw e
       (reach_target p f₀ f a u r 14 y Both (Add 3) S
       (record {
@@ -386,7 +386,7 @@ module _ (f₀ : Facility) (F : Fresh f₀) (u x y : ℕ) (hx : x < f₀.entered
     -- the list by the kind of x
     found : Found f₀ u x y
     found =
-        by-eq (object_of f₀ x).kind 2
+        by_eq (object_of f₀ x).kind 2
         (λ e. record { calls = by_signal; plain = plain_by_signal; reached = reach_by_signal e })
         (λ n. record { calls = direct; plain = plain_direct; reached = reach_direct n })
 
@@ -395,7 +395,7 @@ exactly_when s A a b ha hb u C = ((rises, λ h. reached (falls h)), λ W. falls 
   where
     rises : Reaches s a b → label_of (fresh s) a ⊑ label_of (fresh s) b
     rises W =
-        by-eq b a
+        by_eq b a
         (λ e. subst⁻¹ (λ (k : ℕ). label_of (fresh s) a ⊑ label_of (fresh s) k) e (⊑_refl _))
         (λ n. subst₂ ◌⊑◌ (kept_run W.calls (fresh s) a ha).label (kept_run W.calls (fresh s) b hb).label
         (only_when s A.mac W.calls W.untrusted a b W.holding n).above)

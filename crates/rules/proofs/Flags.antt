@@ -7,7 +7,7 @@ use Rattle.std.specs.Int.Bits.{bit_or, bit_and, or_zero_l, or_zero_r, and_zero_l
 use Rattle.std.proofs.lemmas.Nat.{and_comm}
 use Rattle.std.proofs.Math.Dec.{eqb}
 use Rattle.labels.specs.Decisions.{◌and◌, ◌or◌, at}
-use Rattle.labels.proofs.Laws.Decisions.{and_l, and_r, clash, by-test, by-eq}
+use Rattle.labels.proofs.Laws.Decisions.{and_l, and_r, clash, by_test, by_eq}
 use Rattle.labels.proofs.Laws.Bits.{and_assoc, and_or, or_none_l}
 use Rattle.opens.specs.Opens.{most_objects}
 use Rattle.answers.specs.Outcomes.{no_object}
@@ -36,7 +36,7 @@ pub giver_before : (x : Objects) (t : ℕ) → inherits x t ≡ true → parent_
 giver_before x t i = parent_before x t (inheriting x t i)
 
 first_alone : (x : Objects) (t : ℕ) → t ≡ 0 → inherits x t ≡ false
-first_alone x t e = by-test (inherits x t) (λ i. let b = giver_before x t i in absurd (omega arith)) (λ i. i)
+first_alone x t e = by_test (inherits x t) (λ i. let b = giver_before x t i in absurd (omega arith)) (λ i. i)
 
 -- any bound from t on gives the same
 any_bound : (n m : ℕ) (x : Objects) (t : ℕ) → t ≤ n → t ≤ m → effective_in n x t ≡ effective_in m x t
@@ -45,7 +45,7 @@ any_bound zero zero x t h k = refl
 any_bound zero (suc m) x t h k = let e : t ≡ 0 = omega arith in rw (first_alone x t e) (sym (or_zero_r _))
 any_bound (suc n) zero x t h k = let e : t ≡ 0 = omega arith in rw (first_alone x t e) (or_zero_r _)
 any_bound (suc n) (suc m) x t h k =
-    by-test (inherits x t)
+    by_test (inherits x t)
     (λ i.
     let b = giver_before x t i in
     rw i (ap (λ (v : ℕ). bit_or (flags_of x t) (without_no_delete v)) (any_bound n m x (parent_of x t - 1) (omega arith) (omega arith))))
@@ -55,7 +55,7 @@ effective_more : (x : Objects) (t : ℕ)
     → effective_in (suc t) x t ≡ bit_or (flags_of x t) (cond (inherits x t) (without_no_delete (effective x (parent_of x t - 1))) 0)
 unfolding effective_in
 effective_more x t =
-    by-test (inherits x t)
+    by_test (inherits x t)
     (λ i.
     let b = giver_before x t i in
     rw i (ap (λ (v : ℕ). bit_or (flags_of x t) (without_no_delete v)) (any_bound t (parent_of x t - 1) x (parent_of x t - 1) (omega arith) (omega arith))))
@@ -71,8 +71,8 @@ parent_told : (x y : Objects) (t : ℕ) → parent_of y t ≡ parent_of x t
     → has_parent y t ≡ has_parent x t
 unfolding has_parent ◌and◌
 parent_told x y t e l =
-    rw e (by-test (ltb 0 (parent_of x t))
-    (λ a. by-test (leb (parent_of x t) t)
+    rw e (by_test (ltb 0 (parent_of x t))
+    (λ a. by_test (leb (parent_of x t) t)
     (λ b. let p = ltb-true 0 (parent_of x t) a in let q = leb-true (parent_of x t) t b in rw (a, b, l (omega arith)))
     (λ b. rw (a, b)))
     (λ a. rw a))
@@ -88,7 +88,7 @@ unfolding effective_in
 told_below zero b x y fs ps ls t h = fs t h
 told_below (suc n) b x y fs ps ls t h =
     rw (fs t h, inherits_told x y t (fs t h) (ps t h) (λ c. ls (parent_of x t - 1) (omega arith)), ps t h)
-    (by-test (inherits x t)
+    (by_test (inherits x t)
     (λ i.
     let c = giver_before x t i in
     rw i (ap (λ (v : ℕ). bit_or (flags_of x t) (without_no_delete v)) (told_below n b x y fs ps ls (parent_of x t - 1) (omega arith))))
@@ -103,7 +103,7 @@ has_or : (m a b : ℕ) → has m (bit_or a b) ≡ (has m a or has m b)
 unfolding has ◌or◌
 has_or m a b =
     rw (and_or a b m)
-    (by-eq (bit_and a m) 0
+    (by_eq (bit_and a m) 0
     (λ e. rw (e, or_zero_l (bit_and b m)))
     (λ n. rw (ne_eqb (bit_and a m) 0 n, ne_eqb (bit_or (bit_and a m) (bit_and b m)) 0 (λ z. n (or_none_l _ _ z)))))
 
@@ -119,7 +119,7 @@ has_without m v = ap (λ (n : ℕ). not (eqb n 0)) (sym (and_assoc v 251 m) ∙ 
 has_more : (m v : ℕ) → has (without_no_delete m) v ≡ true → has m v ≡ true
 unfolding has
 has_more m v h =
-    by-eq (bit_and v m) 0
+    by_eq (bit_and v m) 0
     (λ e.
     let z : bit_and v (bit_and m 251) ≡ 0 = and_assoc v m 251 ∙ ap (λ (n : ℕ). bit_and n 251) e ∙ and_zero_l 251 in
     clash h (rw z refl))
@@ -132,7 +132,7 @@ source_bound zero zero x t m h l = refl
 source_bound zero (suc k) x t m h l = let e : t ≡ 0 = omega arith in rw (first_alone x t e)
 source_bound (suc n) zero x t m h l = let e : t ≡ 0 = omega arith in rw (first_alone x t e)
 source_bound (suc n) (suc k) x t m h l =
-    by-test (inherits x t)
+    by_test (inherits x t)
     (λ i. let b = giver_before x t i in rw (source_bound n k x (parent_of x t - 1) (without_no_delete m) (omega arith) (omega arith)))
     (λ i. rw i)
 
@@ -140,7 +140,7 @@ source_more : (x : Objects) (t m : ℕ) → source_in (suc t) x t m
     ≡ cond (has m (flags_of x t)) t (cond (inherits x t) (flag_source x (parent_of x t - 1) (without_no_delete m)) no_object)
 unfolding source_in
 source_more x t m =
-    by-test (inherits x t)
+    by_test (inherits x t)
     (λ i. let b = giver_before x t i in rw (source_bound t (parent_of x t - 1) x (parent_of x t - 1) (without_no_delete m) (omega arith) (omega arith)))
     (λ i. rw i)
 
@@ -154,7 +154,7 @@ unfolding source_in
 source_below zero b x y fs ps ls t m h = rw (fs t h)
 source_below (suc n) b x y fs ps ls t m h =
     rw (fs t h, inherits_told x y t (fs t h) (ps t h) (λ c. ls (parent_of x t - 1) (omega arith)), ps t h)
-    (by-test (inherits x t)
+    (by_test (inherits x t)
     (λ i. let c = giver_before x t i in rw (source_below n b x y fs ps ls (parent_of x t - 1) (without_no_delete m) (omega arith)))
     (λ i. rw i))
 
@@ -166,14 +166,14 @@ source_told b x y fs ps ls t m h = source_below t b x y fs ps ls t m h
 source_in_law : (n : ℕ) (x : Objects) (t m : ℕ) → t < most_objects → has m (effective_in n x t) ≡ not (eqb (source_in n x t m) no_object)
 unfolding effective_in source_in ◌or◌
 source_in_law zero x t m h =
-    by-test (has m (flags_of x t))
+    by_test (has m (flags_of x t))
     (λ a. rw (a, ne_eqb t no_object (λ z. absurd (omega arith))))
     (λ a. rw a)
 source_in_law (suc n) x t m h =
     has_or m (flags_of x t) _
-    ∙ by-test (has m (flags_of x t))
+    ∙ by_test (has m (flags_of x t))
     (λ a. rw (a, ne_eqb t no_object (λ z. absurd (omega arith))))
-    (λ a. by-test (inherits x t)
+    (λ a. by_test (inherits x t)
     (λ i.
     let b = giver_before x t i in
     rw (a, i) (has_without m (effective_in n x (parent_of x t - 1)) ∙ source_in_law n x (parent_of x t - 1) (without_no_delete m) (omega arith)))
@@ -186,10 +186,10 @@ own_in : (n : ℕ) (x : Objects) (t m : ℕ) → has m (effective_in n x t) ≡ 
 unfolding effective_in source_in ◌or◌
 own_in zero x t m h = rw h h
 own_in (suc n) x t m h =
-    by-test (has m (flags_of x t))
+    by_test (has m (flags_of x t))
     (λ a. rw a a)
     (λ a. let k = sym (has_or m (flags_of x t) _) ∙ h in
-    by-test (inherits x t)
+    by_test (inherits x t)
     (λ i.
     let e : has (without_no_delete m) (effective_in n x (parent_of x t - 1)) ≡ true
     = sym (has_without m (effective_in n x (parent_of x t - 1))) ∙ (rw (a, i) at k) in
@@ -211,19 +211,19 @@ some_of false false false false = refl
 module _ (request : ℕ) (k : Class) (kind : ℕ) where
   one_read_only : forbids read_only request k kind ≡ (alters k or eqb request 19)
   unfolding forbidding has ◌and◌
-  one_read_only = by-test (alters k or eqb request 19) (λ a. rw a) (λ a. rw a)
+  one_read_only = by_test (alters k or eqb request 19) (λ a. rw a) (λ a. rw a)
 
   one_no_execute : forbids no_execute request k kind ≡ eqb request 7
   unfolding forbidding has ◌and◌
-  one_no_execute = by-test (eqb request 7) (λ a. rw a) (λ a. rw a)
+  one_no_execute = by_test (eqb request 7) (λ a. rw a) (λ a. rw a)
 
   one_no_delete : forbids no_delete request k kind ≡ eqb request 5
   unfolding forbidding has ◌and◌
-  one_no_delete = by-test (eqb request 5) (λ a. rw a) (λ a. rw a)
+  one_no_delete = by_test (eqb request 5) (λ a. rw a) (λ a. rw a)
 
   one_search_only : forbids search_only request k kind ≡ (eqb kind 1 and not (eqb request 15))
   unfolding forbidding has ◌and◌
-  one_search_only = by-test (eqb kind 1) (λ a. by-test (eqb request 15) (λ b. rw (a, b)) (λ b. rw (a, b))) (λ a. rw a)
+  one_search_only = by_test (eqb kind 1) (λ a. by_test (eqb request 15) (λ b. rw (a, b)) (λ b. rw (a, b))) (λ a. rw a)
 
   pub each_forbids : (v : ℕ) → forbids v request k kind
       ≡ (has read_only v and forbids read_only request k kind or has no_execute v and forbids no_execute request k kind

@@ -6,7 +6,7 @@ use Rattle.std.proofs.Math.Bool.{true}
 use borrow.Author.Tests.{ltb-true, ltb-false, eqb-true, lt-ltb, le-ltb, eq-eqb, ne_eqb}
 use Rattle.rules.specs.Types.{Switches, User, Object, Facility}
 use Rattle.labels.specs.Decisions.{◌and◌, ◌or◌, on}
-use Rattle.labels.proofs.Laws.Decisions.{and_l, and_r, or_cases, by-test, by-eq}
+use Rattle.labels.proofs.Laws.Decisions.{and_l, and_r, or_cases, by_test, by_eq}
 use Rattle.state.specs.Laws.ReadBack.{object_new, object_old, add_user_law, add_object_law}
 use Rattle.state.specs.State.{most_users, switches_of, all_off, refusals_of, runs, live, opens_of, put_user, put_object, no_process, blank}
 use Rattle.opens.specs.Opens.{most_objects}
@@ -82,7 +82,7 @@ fresh_object f o F h a pf v =
     record {
       regular = regular_object f o F.regular h a pf;
       whole = λ t b.
-          by-eq t f.entered
+          by_eq t f.entered
           (λ e. subst⁻¹ (λ (k : ℕ). live (put_object f o) k ≡ true) e (rw (object_new f o F.regular.sound.shaped h) v))
           (λ n. rw (object_old f o t n) (F.whole t (omega arith)));
       stopped = F.stopped;
@@ -153,7 +153,7 @@ among_new n r past e c = rw (eq-eqb r.kind 2 e, eq-eqb (count_of 2 past) n c)
 
 pub among_old : (n : ℕ) (r : SetupRecord) (past : List SetupRecord) → count_of 2 past ≢ n → directory_among n (r ∷ past) ≡ directory_among n past
 unfolding directory_among ◌and◌
-among_old n r past c = by-test (eqb r.kind 2) (λ e. rw (e, ne_eqb (count_of 2 past) n c)) (λ e. rw e)
+among_old n r past c = by_test (eqb r.kind 2) (λ e. rw (e, ne_eqb (count_of 2 past) n c)) (λ e. rw e)
 
 told_user : (past : List SetupRecord) (f : Facility) (r : SetupRecord) (u : User) → r.kind ≡ 1 → Told past f → Told (r ∷ past) (put_user f u)
 unfolding put_user
@@ -168,7 +168,7 @@ directory_told : (past : List SetupRecord) (f : Facility) (r : SetupRecord) → 
     → (n : ℕ) → directory_among n (r ∷ past) ≡ (ltb n (f.entered + 1) and eqb (kind_at (put_object f (object_entered r)) n) 1)
 unfolding ◌and◌
 directory_told past f r e F h T n =
-    by-eq n f.entered
+    by_eq n f.entered
     (λ z.
     let k : kind_at (put_object f (object_entered r)) n ≡ r.one
     = ap (kind_at (put_object f (object_entered r))) z ∙ ap (λ (x : Object). x.kind) (object_new f (object_entered r) F.regular.sound.shaped h) in
@@ -178,7 +178,7 @@ directory_told past f r e F h T n =
     among_old n r past (λ c. z (sym c ∙ sym T.entered)) ∙ T.directory n ∙ rw (k, more n f.entered z))
   where
     more : (n m : ℕ) → n ≢ m → ltb n (m + 1) ≡ ltb n m
-    more n m z = by-test (ltb n m) (λ a. let b : n < m = ltb-true n m a in lt-ltb n (m + 1) (omega arith) ∙ sym a)
+    more n m z = by_test (ltb n m) (λ a. let b : n < m = ltb-true n m a in lt-ltb n (m + 1) (omega arith) ∙ sym a)
         (λ a. let b : m ≤ n = ltb-false n m a in le-ltb n (m + 1) (omega arith) ∙ sym a)
 
 told_object : (past : List SetupRecord) (f : Facility) (r : SetupRecord) → r.kind ≡ 2 → Fresh f → f.entered < most_objects → Told past f

@@ -10,7 +10,7 @@ use Rattle.std.proofs.Math.Seq.{get_or-append_seam}
 use native.Mathlib.Omega.{arith}
 use borrow.Author.Tests.{ltb-true, lt-ltb, le-leb}
 use Rattle.labels.specs.Decisions.{◌and◌, at, on}
-use Rattle.labels.proofs.Laws.Decisions.{and_l, and_r, and_i, by-test, by-eq}
+use Rattle.labels.proofs.Laws.Decisions.{and_l, and_r, and_i, by_test, by_eq}
 use Rattle.state.specs.State.{Objects, objects_in, object_in, object_of, live, put_process, put_object}
 use Rattle.state.specs.Laws.ReadBack.{object_new, object_old, add_object_law}
 use Rattle.opens.specs.Opens.{most_objects}
@@ -37,7 +37,7 @@ listed_at : {A : Type 0} (x : Objects) (n : ℕ) (item : ℕ → A) (t : ℕ) (d
 unfolding listed object_in
 listed_at x zero item t d h v = absurd (omega arith)
 listed_at {A} x (suc n) item t d h v =
-    by-eq t n
+    by_eq t n
     (λ e. subst (λ (m : ℕ). get_or (firsts m ++ cond (on (at x.lives m)) (item m ∷ []) []) (new_number x t) d ≡ item t) e
     (rw v (subst (λ (k : ℕ). get_or (firsts t ++ (item t ∷ [])) k d ≡ item t) (listed_number x t item)
     (get_or-append_seam (firsts t) (item t) [] d))))
@@ -110,7 +110,7 @@ module _ (f g : Facility) (R : Regular f) (G : Fresh g) (e : live_objects g ≡ 
   parent_gone : (t : ℕ) → live f t ≡ true → has_parent (objects_in f) t ≡ false → parent_of (objects_in g) (new_number x t) ≡ 0
   unfolding has_parent object_in ◌and◌
   parent_gone t v h =
-      by-eq (parent_of (objects_in f) t) 0
+      by_eq (parent_of (objects_in f) t) 0
       (λ z. parent_as t v ∙ ap (new_parent (objects_in f)) z ∙ parent_none (objects_in f))
       (λ z.
       let (b, k) = R.parent t (R.sound.alive t v) z in
@@ -135,7 +135,7 @@ module _ (f g : Facility) (R : Regular f) (G : Fresh g) (e : live_objects g ≡ 
   still_none t v h = rw (parent_gone t v h) refl
 
   has_as : (t : ℕ) → live f t ≡ true → has_parent (objects_in g) (new_number x t) ≡ has_parent (objects_in f) t
-  has_as t v = by-test (has_parent (objects_in f) t) (λ h. still_counts t v h ∙ sym h) (λ h. still_none t v h ∙ sym h)
+  has_as t v = by_test (has_parent (objects_in f) t) (λ h. still_counts t v h ∙ sym h) (λ h. still_none t v h ∙ sym h)
 
   inherits_as : (t : ℕ) → live f t ≡ true → inherits (objects_in g) (new_number x t) ≡ inherits (objects_in f) t
   unfolding inherits
@@ -146,7 +146,7 @@ module _ (f g : Facility) (R : Regular f) (G : Fresh g) (e : live_objects g ≡ 
   kept_below (suc n) t b v =
       effective_is (objects_in g) (new_number x t)
       ∙ rw (flags_as t v, inherits_as t v)
-      (by-test (inherits (objects_in f) t)
+      (by_test (inherits (objects_in f) t)
       (λ i.
       let c = inheriting (objects_in f) t i in
       let l = parent_before (objects_in f) t c in

@@ -5,7 +5,7 @@ use Rattle.std.proofs.Common.{sym, ◌∙◌, ap, subst, arith, eqb-true, eq-eqb
 use Rattle.std.proofs.Math.Path.{subst⁻¹}
 use Rattle.rules.specs.Types.{Process, Object, Facility}
 use Rattle.labels.specs.Decisions.{on}
-use Rattle.labels.proofs.Laws.Decisions.{or_cases, by-test, by-eq}
+use Rattle.labels.proofs.Laws.Decisions.{or_cases, by_test, by_eq}
 use Rattle.state.specs.Laws.ReadBack.{object_new, object_old}
 use Rattle.opens.specs.Opens.{most_processes, most_objects, most_opens, reading, writing}
 use Rattle.state.specs.State.{object_in, process_of, object_of, runs, trusted_user, label_of, opens_of, put_process, put_opens, put_object, drop_object, put_refusals}
@@ -136,14 +136,14 @@ inv_counted f a u I =
     }
 
 -- a set in a family with one replaced
-pub put-cases {ℓ} : (s : ℕ → Set) (i : ℕ) (v : Set) (j c : ℕ) {A : Type ℓ} → put s i v j c ≡ true → (i ≡ j → v c ≡ true → A) → (s j c ≡ true → A) → A
-put-cases s i v j c h f g = by-test (eqb i j) (λ e. f (eqb-true i j e) (rw e at h)) (λ e. g (rw e at h))
+pub put_cases {ℓ} : (s : ℕ → Set) (i : ℕ) (v : Set) (j c : ℕ) {A : Type ℓ} → put s i v j c ≡ true → (i ≡ j → v c ≡ true → A) → (s j c ≡ true → A) → A
+put_cases s i v j c h f g = by_test (eqb i j) (λ e. f (eqb-true i j e) (rw e at h)) (λ e. g (rw e at h))
 
 -- whoever knows t knows what t holds
 pub knows_held : (f : Facility) (a : Account) (t c : ℕ) (r : Process) → Inv f a → a.objects t c ≡ true
     → Knows f.entered (label_of f t) t r → Knows f.entered (label_of f c) c r
 knows_held f a t c r I m k =
-    by-eq t c
+    by_eq t c
     (λ e. subst (λ (x : ℕ). Knows f.entered (label_of f x) x r) e k)
     (λ n.
     let H = I.holds t c m in
@@ -159,7 +159,7 @@ unfolding process_gains
 inv_take f a p t I k =
     inv_account f a a.objects _ I
     (λ q c u m.
-    put-cases a.processes p _ q c m
+    put_cases a.processes p _ q c m
     (λ e m'. or_cases _ _ m'
     (λ own. (I.process q).knows c u (subst (λ (x : ℕ). a.processes x c ≡ true) e own))
     (λ new. subst (λ (x : ℕ). Knows f.entered (label_of f c) c (process_of f x)) e (knows_held f a t c _ I new k)))
@@ -173,7 +173,7 @@ unfolding object_gains
 inv_give f a p t I u i g b =
     inv_account f a _ a.processes I (λ q c. (I.process q).knows c)
     (λ x c m.
-    put-cases a.objects t _ x c m
+    put_cases a.objects t _ x c m
     (λ e m'. subst (λ (y : ℕ). Holds f.entered (label_of f y) (label_of f c) y c) e
     (or_cases _ _ m'
     (λ old. I.holds t c old)
@@ -193,7 +193,7 @@ unfolding assign
 inv_assign f a p s I k =
     inv_account f a a.objects _ I
     (λ q c u m.
-    put-cases a.processes p s q c m
+    put_cases a.processes p s q c m
     (λ e m'. subst (λ (x : ℕ). Knows f.entered (label_of f c) c (process_of f x)) e (k c (subst⁻¹ (λ (x : ℕ). runs f x ≡ true) e u) m'))
     (λ m'. (I.process q).knows c u m'))
     I.holds
@@ -232,7 +232,7 @@ inv_enter f a o I h =
       mac = I.mac;
       next = ap (λ (n : ℕ). n + 1) I.next;
       kinds = λ t b.
-          by-eq t f.entered
+          by_eq t f.entered
           (λ e. rw (eq-eqb a.next t (I.next ∙ sym e))
           (sym (subst⁻¹ (λ (k : ℕ). (object_of (put_object f o) k).kind ≡ o.kind) e (ap (λ (x : Object). x.kind) (object_new f o I.sound.shaped h)))))
           (λ n. rw (ne_eqb a.next t (λ q. n (sym q ∙ I.next)), object_old f o t n) (I.kinds t (omega arith)));
@@ -245,7 +245,7 @@ inv_enter f a o I h =
             knows = λ c u m. knows_enter f o c _ (F.knows c u m);
           };
       holds = λ x c m.
-          put-cases a.objects a.next (only a.next) x c m
+          put_cases a.objects a.next (only a.next) x c m
           (λ e m'. record {
             holder = omega (arith, I.next);
             inside = omega (arith, I.next, eqb-true a.next c m');

@@ -3,7 +3,7 @@ use Rattle.std.specs.Prelude.{ℕ, ◌<◌, ◌≡◌, refl, List, [], ◌∷◌
 use Rattle.std.proofs.Common.{◌∙◌, arith}
 use Rattle.rules.specs.Types.{Call, Object, Facility, Change, NoChange, PutProcess, CloneProcess, EndProcess, UseObject, CreateObject, EnterObject}
 use Rattle.state.specs.declared.Change.TheVariants.{CountRefusal}
-use Rattle.labels.proofs.Laws.Decisions.{by-test}
+use Rattle.labels.proofs.Laws.Decisions.{by_test}
 use Rattle.answers.specs.Outcomes.{denies}
 use Rattle.opens.specs.Opens.{most_objects}
 use Rattle.state.specs.State.{changed, object_in, label_of, put_process, put_opens, put_object, add_object, drop_object, put_refusals, counted, open_by}
@@ -27,7 +27,7 @@ kept f t h = record { inside = h; label = refl }
 kept_add : (f : Facility) (o : Object) (t : ℕ) → t < f.entered → Kept f (add_object f o) t
 unfolding add_object put_object
 kept_add f o t h =
-    by-test (ltb f.entered most_objects)
+    by_test (ltb f.entered most_objects)
     (λ e. rw e (record { inside = omega arith; label = level_old f o t h }))
     (λ e. rw e (kept f t h))
 
@@ -57,9 +57,9 @@ kept_changed (CountRefusal u) f t h = record { inside = h; label = refl }
 kept_after : (f : Facility) (c : Call) (t : ℕ) → t < f.entered → Kept f (after f c) t
 unfolding after after_refusal effect_from
 kept_after f c t h =
-    by-test (accepted f c)
+    by_test (accepted f c)
     (λ e. rw e (kept_changed (change_of (action_of c.request) (view_of f c) c) f t h))
-    (λ e. rw e (by-test (denies (number f c)) (λ d. rw d (kept_changed (CountRefusal (owner_in f c)) f t h)) (λ d. rw d (kept f t h))))
+    (λ e. rw e (by_test (denies (number f c)) (λ d. rw d (kept_changed (CountRefusal (owner_in f c)) f t h)) (λ d. rw d (kept f t h))))
 
 pub kept_run : (cs : List Call) (f : Facility) (t : ℕ) → t < f.entered → Kept f (run f cs) t
 unfolding run

@@ -2,7 +2,7 @@
 use Rattle.std.specs.Prelude.{ℕ, ◌<◌, ◌≡◌, refl, true}
 use Rattle.std.proofs.Common.{sym, ◌∙◌, ap, ltb-true}
 use Rattle.rules.specs.Types.{Call, Process, Object, Facility}
-use Rattle.labels.proofs.Laws.Decisions.{by-test}
+use Rattle.labels.proofs.Laws.Decisions.{by_test}
 use Rattle.opens.specs.Opens.{most_objects}
 use Rattle.state.specs.Laws.ReadBack.{process_same, object_new, add_object_law}
 use Rattle.state.specs.State.{label_of, put_process, put_object}
@@ -38,7 +38,7 @@ created_label f c S a k =
     let room : f.entered < most_objects = ltb-true _ _ q.room in
     let r = moved (view_of f c) c in
     let g = put_process f c.process r in
-    by-test (in_directory c.extra)
+    by_test (in_directory c.extra)
     (λ d. rw (a, e, d, add_object_law g (created r c.extra c.target) room)
     (new_label g c.process c.extra c.target r (sound_process f c.process r S) room
     (sym (ap (λ (x : Process). x.current) (process_same f c.process r S.shaped q.process)))))

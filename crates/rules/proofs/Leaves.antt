@@ -3,7 +3,7 @@ use Rattle.std.specs.Prelude.{ℕ, ◌≡◌, ltb}
 use Rattle.std.proofs.Math.Path.{refl}
 use Rattle.std.proofs.Common.{◌∙◌}
 use mathlib.Core.List.{List, [], ◌∷◌}
-use Rattle.labels.proofs.Laws.Decisions.{by-test}
+use Rattle.labels.proofs.Laws.Decisions.{by_test}
 use Rattle.answers.specs.Outcomes.{denies}
 use Rattle.opens.specs.Opens.{most_objects}
 use Rattle.state.specs.State.{switches_of, put_process, put_opens, put_object, add_object, drop_object, put_refusals, counted, open_by}
@@ -27,7 +27,7 @@ pub record Leaves {A : Type 0} (g : Facility → A) : Type 0 where
 module _ {A : Type 0} (g : Facility → A) (L : Leaves g) where
   add_leaves : (f : Facility) (o : Object) → g (add_object f o) ≡ g f
   unfolding add_object
-  add_leaves f o = by-test (ltb f.entered most_objects) (λ e. rw e (L.object f o)) (λ e. rw e)
+  add_leaves f o = by_test (ltb f.entered most_objects) (λ e. rw e (L.object f o)) (λ e. rw e)
 
   open_leaves : (o : OpenChange) (f : Facility) (p t : ℕ) → g (open_by o f p t) ≡ g f
   unfolding open_by
@@ -45,7 +45,7 @@ module _ {A : Type 0} (g : Facility → A) (L : Leaves g) where
   effect_leaves SetLevel f c = L.process f _ _
   effect_leaves Terminate f c = L.opens _ _ ∙ L.process f _ _
   effect_leaves Create f c =
-      by-test (in_directory c.extra) (λ e. rw e (add_leaves _ _ ∙ L.process f _ _)) (λ e. rw e (add_leaves f _))
+      by_test (in_directory c.extra) (λ e. rw e (add_leaves _ _ ∙ L.process f _ _)) (λ e. rw e (add_leaves f _))
   effect_leaves OnObject f c = open_leaves (open_change c.request) _ _ _ ∙ L.process f _ _
   effect_leaves Unknown f c = refl
 
@@ -54,9 +54,9 @@ module _ {A : Type 0} (g : Facility → A) (L : Leaves g) where
     pub after_leaves : (f : Facility) (c : Call) → g (after f c) ≡ g f
     unfolding after after_refusal counted
     after_leaves f c =
-        by-test (accepted f c)
+        by_test (accepted f c)
         (λ h. rw h (effect_leaves (action_of c.request) f c))
-        (λ h. rw h (by-test (denies (number f c)) (λ d. rw d (counting f _)) (λ d. rw d)))
+        (λ h. rw h (by_test (denies (number f c)) (λ d. rw d (counting f _)) (λ d. rw d)))
 
     pub run_leaves : (cs : List Call) (f : Facility) → g (run f cs) ≡ g f
     unfolding run

@@ -1,7 +1,7 @@
 -- The laws of `listed`: the items of the numbers below a limit that a test admits.
 use Rattle.std.specs.Prelude.{ℕ, zero, suc, ◌≤◌, ◌<◌, ◌≡◌, refl, Bool, true, [], ◌∷◌, ◌++◌, length}
 use Rattle.std.proofs.Common.{ap, length-append, arith}
-use Rattle.labels.proofs.Laws.Decisions.{by-test}
+use Rattle.labels.proofs.Laws.Decisions.{by_test}
 use Rattle.rules.specs.Setup.{listed}
 use Rattle.rules.proofs.Past.{All, all_append}
 
@@ -25,11 +25,11 @@ unfolding listed
 listed_all P zero t i h = tt
 listed_all P (suc n) t i h =
     all_append P (listed n t i) _ (listed_all P n t i (λ k b. h k (omega arith)))
-    (by-test (t n) (λ e. rw e (h n (omega arith) e, tt)) (λ e. rw e tt))
+    (by_test (t n) (λ e. rw e (h n (omega arith) e, tt)) (λ e. rw e tt))
 
 pub listed_length : {A : Type 0} (n : ℕ) (t : ℕ → Bool) (i : ℕ → A) → length (listed n t i) ≤ n
 unfolding listed
 listed_length zero t i = omega arith
 listed_length (suc n) t i =
     let e = listed_length n t i in
-    by-test (t n) (λ h. rw h (simp length-append (omega arith))) (λ h. rw h (simp length-append (omega arith)))
+    by_test (t n) (λ h. rw h (simp length-append (omega arith))) (λ h. rw h (simp length-append (omega arith)))

@@ -4,7 +4,7 @@ use Rattle.std.proofs.Common.{◌∙◌, ap}
 use Rattle.rules.specs.Types.{Answer, NotCared, Call, Object, Facility, Change, NoChange, PutProcess, CloneProcess, EndProcess, UseObject}
 use Rattle.rules.specs.Types.{CreateObject, EnterObject}
 use Rattle.labels.specs.Decisions.{◌and◌, ◌or◌, ask, on}
-use Rattle.labels.proofs.Laws.Decisions.{clash, by-test}
+use Rattle.labels.proofs.Laws.Decisions.{clash, by_test}
 use Rattle.answers.specs.Outcomes.{denies}
 use Rattle.opens.specs.Opens.{most_objects}
 use Rattle.state.specs.State.{opens_of, put_process, put_opens, put_object, add_object, drop_object, put_refusals, counted, open_by, changed}
@@ -122,7 +122,7 @@ open_apart CloseAll f g p t = refl
 
 add_apart : (f g : Facility) (o : Object) → add_object (with_switches_of g f) o ≡ with_switches_of g (add_object f o)
 unfolding add_object put_object
-add_apart f g o = by-test (ltb f.entered most_objects) (λ e. rw e) (λ e. rw e)
+add_apart f g o = by_test (ltb f.entered most_objects) (λ e. rw e) (λ e. rw e)
 
 changed_apart : (x : Change) (f g : Facility) → changed (with_switches_of g f) x ≡ with_switches_of g (changed f x)
 unfolding put_process put_opens counted put_refusals

@@ -2,7 +2,7 @@
 use Rattle.std.specs.Prelude.{ℕ, ◌<◌, ◌≡◌, refl, Bool, true, false}
 use Rattle.rules.specs.Types.{Call, Process, User, Object, Facility}
 use Rattle.labels.specs.Decisions.{◌and◌, on}
-use Rattle.labels.proofs.Laws.Decisions.{and_l, and_r, or_cases, clash, by-test}
+use Rattle.labels.proofs.Laws.Decisions.{and_l, and_r, or_cases, clash, by_test}
 use Rattle.opens.specs.Opens.{most_processes}
 use Rattle.state.specs.State.{process_of, put_process}
 use Rattle.labels.specs.Labels.{Label, given, ◌⊑◌}
@@ -131,7 +131,7 @@ inv_move f a p s I h M = inv_process f a p s I h (fits_moved _ _ _ _ _ _ _ (I.pr
 pub object_granted : (k : Class) (o : Object) (r : Process) (u : User) → on u.trusted ≡ false → passes (mac_object k o r u) ≡ true
     → (given o.label ≡ true) × (passes (mac_class k o.label r u.clearance) ≡ true)
 unfolding mac_object passes
-object_granted k o r u t h = by-test (given o.label) (λ g. (g, rw (g, t) at h)) (λ g. clash (rw g at h) refl)
+object_granted k o r u t h = by_test (given o.label) (λ g. (g, rw (g, t) at h)) (λ g. clash (rw g at h) refl)
 
 -- the caller's move, where MAC is on and its owner untrusted
 pub moved_is : (v : View) (c : Call) → on v.switches.mac ≡ true → on v.owner.trusted ≡ false

@@ -5,7 +5,7 @@ use Rattle.std.proofs.Common.{sym, ◌∙◌, ap, subst, arith}
 use borrow.Author.Tests.{ltb-true, eq-eqb, ne_eqb, not-true}
 use Rattle.rules.specs.Types.{Call, Process, User, Facility}
 use Rattle.labels.specs.Decisions.{◌and◌, ◌or◌, on}
-use Rattle.labels.proofs.Laws.Decisions.{and_l, and_r, clash, by-test}
+use Rattle.labels.proofs.Laws.Decisions.{and_l, and_r, clash, by_test}
 use Rattle.labels.specs.Labels.{Label, same, lawful}
 use Rattle.labels.proofs.Laws.Labels.{eq_same, rank_lawful}
 use Rattle.state.specs.State.{Users, users_in, user_in, user_of, process_of, runs, clearance_of, most_moves, put_process, put_opens, put_object, drop_object}
@@ -42,8 +42,8 @@ record Counted (mac : ℕ) (u : User) (n : ℕ) (r : Process) : Type 0 where
 
 counted_most : (mac : ℕ) (u : User) (n : ℕ) (r : Process) → Counted mac u n r → n ≤ moves_bound u.clearance
 counted_most mac u n r C =
-    by-test (on mac)
-    (λ m. by-test (on u.trusted) (λ t. let e = C.trusted t in omega arith) (λ t. (C.judged m t).most))
+    by_test (on mac)
+    (λ m. by_test (on u.trusted) (λ t. let e = C.trusted t in omega arith) (λ t. (C.judged m t).most))
     (λ m. let e = C.off m in omega arith)
 
 -- so it is far from the counter's stop
@@ -56,7 +56,7 @@ counted_exact mac u n r C =
 -- the counter of a process whose level becomes l by R, W or B
 counter_to : (l : Label) (r : Process) (n : ℕ) → r.moves ≡ min n most_moves → moves_to l r ≡ min (more (not (same l r.current)) n) most_moves
 counter_to l r n h =
-    by-test (same l r.current) (λ e. rw e (h ∙ omega arith)) (λ e. rw e (one_more_law most_moves r.moves n h))
+    by_test (same l r.current) (λ e. rw e (h ∙ omega arith)) (λ e. rw e (one_more_law most_moves r.moves n h))
 
 counter_move : (k : Class) (l : Label) (r : Process) (n : ℕ) → r.moves ≡ min n most_moves
     → (move_by k l r).moves ≡ min (more (changes k l r) n) most_moves
@@ -80,13 +80,13 @@ unchanged : (v : View) (c : Call) → moved v c ≡ v.caller → moved_by v c �
 unfolding ◌and◌
 unchanged v c e =
     rw (eq_same (moved v c).current v.caller.current (ap (λ (r : Process). r.current) e))
-    (by-test (observes (class_in v c) or alters (class_in v c)) (λ k. rw k) (λ k. rw k))
+    (by_test (observes (class_in v c) or alters (class_in v c)) (λ k. rw k) (λ k. rw k))
 
 counted_moved : (v : View) (c : Call) (n : ℕ)
     → (on v.switches.mac ≡ true → passes (mac_object (class_in v c) v.target.object v.caller v.owner) ≡ true)
     → Counted v.switches.mac v.owner n v.caller → Counted v.switches.mac v.owner (more (moved_by v c) n) (moved v c)
 counted_moved v c n p C =
-    by-test (on v.switches.mac and not (on v.owner.trusted))
+    by_test (on v.switches.mac and not (on v.owner.trusted))
     (λ h. judged_moved (and_l _ _ h) (not-true _ (and_r _ _ h)))
     (λ h. still (at_rest v c h))
   where
@@ -112,7 +112,7 @@ counted_level : (v : View) (c : Call) (n : ℕ) → (on v.switches.mac ≡ true 
     → Counted v.switches.mac v.owner n v.caller → Counted v.switches.mac v.owner n (levelled v c)
 unfolding levelled mac_rule set_level
 counted_level v c n p C =
-    by-test (on v.switches.mac)
+    by_test (on v.switches.mac)
     (λ m. rw m (record {
       counter = C.counter;
       cleared = C.cleared;
@@ -126,7 +126,7 @@ counted_signal : (v : View) (n : ℕ) → Counted v.switches.mac v.target.owner 
     → Counted v.switches.mac v.target.owner n (signalled v)
 unfolding signalled
 counted_signal v n C =
-    by-test (on v.switches.mac and not (on v.target.owner.trusted))
+    by_test (on v.switches.mac and not (on v.target.owner.trusted))
     (λ e. rw e (record {
       counter = C.counter;
       cleared = C.cleared;
@@ -175,9 +175,9 @@ module _ (f : Facility) (c : Call) (xs : List Step) where
   no_move : (q : ℕ) → (needs_object (action_of c.request) c.extra ≡ true → q ≢ c.process) → is_move (last f c) q ≡ false
   unfolding is_move of_class ◌and◌
   no_move q w =
-      by-test (accepted f c)
-      (λ h. by-test (eqb c.process q)
-      (λ e. by-test (needs_object (action_of c.request) c.extra)
+      by_test (accepted f c)
+      (λ h. by_test (eqb c.process q)
+      (λ e. by_test (needs_object (action_of c.request) c.extra)
       (λ n. clash e (ne_eqb c.process q (λ z. w n (sym z)))) (λ n. rw (h, e, n)))
       (λ e. rw (h, e)))
       (λ h. rw h)
@@ -238,7 +238,7 @@ module _ (f : Facility) (c : Call) (xs : List Step) where
         (counted_level (view_of f c) c (moves_of xs c.process) (λ m. mac_passed SetLevel (view_of f c) c q m) (G c.process q.running))
     new_counted Terminate e q = λ r. clash r refl
     new_counted Create e q =
-        by-test (in_directory c.extra)
+        by_test (in_directory c.extra)
         (λ d. rw d (counted_caller Create e refl refl d q.running (process_put Create f c _ _ R.sound.shaped q (rw d))
         (λ m. rw d at (mac_passed Create (view_of f c) c q m))))
         (λ d. rw d tt)
@@ -266,7 +266,7 @@ counted_after : (f : Facility) (c : Call) (xs : List Step) → Regular f → All
     → AllCounted (setting f) (last f c ∷ xs) (after f c)
 unfolding after
 counted_after f c xs R G =
-    by-test (accepted f c)
+    by_test (accepted f c)
     (λ h. rw h (counted_accepted f c xs R G h))
     (λ h. rw h (each_refused (CountedAt (setting f) (last f c ∷ xs)) f (owner_in f c) (number f c)
     (λ p r. subst⁻¹ (λ (n : ℕ). Counted f.mac (user_of f (process_of f p).owner) n (process_of f p)) (moves_refused f c xs h p) (G p r))))

@@ -3,7 +3,7 @@ use Rattle.std.specs.Prelude.{ℕ, ◌+◌, ◌<◌, ◌≡◌, refl, ◌≢◌,
 use Rattle.std.proofs.Common.{◌∙◌, ap, subst, arith, ltb-true, lt-ltb, ne_eqb}
 use Rattle.rules.specs.Types.{Call, Object, Facility}
 use Rattle.labels.specs.Decisions.{◌and◌, ask}
-use Rattle.labels.proofs.Laws.Decisions.{and_l, by-test}
+use Rattle.labels.proofs.Laws.Decisions.{and_l, by_test}
 use Rattle.answers.specs.Outcomes.{denies, outcome_of, object_number_of}
 use Rattle.opens.specs.Opens.{most_objects}
 use Rattle.state.specs.State.{put_process, put_opens, put_object, add_object, drop_object, put_refusals, counted, open_by}
@@ -41,7 +41,7 @@ effect_entered Unknown f c q = omega arith
 effect_entered SetLevel f c q = omega arith
 effect_entered Terminate f c q = omega arith
 effect_entered Create f c q =
-    by-test (in_directory c.extra)
+    by_test (in_directory c.extra)
     (λ e. rw e (add_entered (put_process f c.process _) _ (ltb-true _ _ q.room)))
     (λ e. rw e (add_entered f _ (ltb-true _ _ q.room)))
 effect_entered OnObject f c q =
@@ -50,7 +50,7 @@ effect_entered OnObject f c q =
 
 pub refused_entered : (f : Facility) (u n : ℕ) → (after_refusal f u n).entered ≡ f.entered
 unfolding after_refusal counted put_refusals
-refused_entered f u n = by-test (denies n) (λ h. rw h) (λ h. rw h)
+refused_entered f u n = by_test (denies n) (λ h. rw h) (λ h. rw h)
 
 -- whether a call is an accepted create
 abbrev creates : Facility → Call → Bool
@@ -59,7 +59,7 @@ creates f c = accepted f c and is_create (action_of c.request)
 call_entered : (f : Facility) (c : Call) → (after f c).entered ≡ f.entered + cond (creates f c) 1 0
 unfolding after ◌and◌
 call_entered f c =
-    by-test (accepted f c)
+    by_test (accepted f c)
     (λ h. rw h (effect_entered (action_of c.request) f c (passed (action_of c.request) (view_of f c) c (accepted_zero f c h))))
     (λ h. rw h (let e = refused_entered f (owner_in f c) (number f c) in omega arith))
 
@@ -74,7 +74,7 @@ run_entered [] f = omega arith
 run_entered (c ∷ cs) f =
     let e = call_entered f c in
     let r = run_entered cs (after f c) in
-    by-test (creates f c)
+    by_test (creates f c)
     (λ h. rw h (let d : (after f c).entered ≡ f.entered + 1 = rw h at e in omega arith))
     (λ h. rw h (let d : (after f c).entered ≡ f.entered + 0 = rw h at e in omega arith))
 
@@ -84,7 +84,7 @@ run_rising [] f = refl
 run_rising (c ∷ cs) f =
     let e = call_entered f c in
     let r = run_rising cs (after f c) in
-    by-test (creates f c)
+    by_test (creates f c)
     (λ h.
     let d : (after f c).entered ≡ f.entered + 1 = rw h at e in
     rw h (rw (create_next f c h)
@@ -108,7 +108,7 @@ ten_asked : (k : Action) (v : View) (c : Call) (later : ℕ) → eqb later 10 �
     → eqb (ask (room_for k v c) 10 later) 10 ≡ (is_create k and not (ltb v.entered most_objects))
 unfolding room_for ask ◌and◌
 ten_asked k v c later h =
-    by-test (is_create k) (λ e. rw e (by-test (ltb v.entered most_objects) (λ r. rw r h) (λ r. rw r refl))) (λ e. rw e h)
+    by_test (is_create k) (λ e. rw e (by_test (ltb v.entered most_objects) (λ r. rw r h) (λ r. rw r refl))) (λ e. rw e h)
 
 -- a question with another number than m, before p and q: m comes where it is answered with yes, and they say so
 ask_last : (b q : Bool) (n later m : ℕ) → n ≢ m → eqb later m ≡ q → eqb (ask b n later) m ≡ (b and q)

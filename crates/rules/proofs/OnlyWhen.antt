@@ -3,7 +3,7 @@ use Rattle.std.specs.Prelude.{ℕ, ◌<◌, ◌≡◌, refl, ◌≢◌, true, fa
 use Rattle.std.proofs.Common.{sym, ◌∙◌, ap, subst, ltb-true, eqb-true}
 use Rattle.rules.specs.Types.{Switches, Call, Facility}
 use Rattle.labels.specs.Decisions.{on}
-use Rattle.labels.proofs.Laws.Decisions.{or_none, clash, by-test}
+use Rattle.labels.proofs.Laws.Decisions.{or_none, clash, by_test}
 use Rattle.state.specs.State.{label_of}
 use Rattle.rules.specs.Flow.{Above, OnlyWhen}
 use Rattle.rules.specs.Calls.{after}
@@ -33,7 +33,7 @@ inv_start f F m =
         knows = λ c r h. clash h refl;
       };
       holds = λ x c h.
-          by-test (ltb x f.entered)
+          by_test (ltb x f.entered)
           (λ e. let q : x ≡ c = eqb-true x c (rw e at h) in let b = ltb-true _ _ e in
           record { holder = b; inside = subst (λ (y : ℕ). y < f.entered) q b; above = λ n. absurd (n q) })
           (λ e. clash (rw e at h) refl);

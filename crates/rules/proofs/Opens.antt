@@ -5,7 +5,7 @@ use Rattle.std.proofs.Math.Path.{subst⁻¹}
 use Rattle.std.proofs.Math.ListN.{get_or-eq_default}
 use Rattle.rules.specs.Types.{Process, Facility}
 use Rattle.labels.specs.Decisions.{at, on}
-use Rattle.labels.proofs.Laws.Decisions.{or_cases, clash, by-test, by-eq}
+use Rattle.labels.proofs.Laws.Decisions.{or_cases, clash, by_test, by_eq}
 use Rattle.state.specs.Outside.{OnePair}
 use Rattle.state.specs.Laws.Outside.{one_pair}
 use Rattle.opens.specs.Laws.Opens.{length_build, at_build, place_below, place_object, place_process, reading_add, writing_add}
@@ -53,7 +53,7 @@ inv_mark f a p t v I hp ht R W =
     pair = one_pair f I.sound.shaped
 
     split : (q u : ℕ) → {A : Type 0} → (q ≡ p → u ≡ t → A) → ((q ≡ p → u ≢ t) → A) → A
-    split q u same' other' = by-eq q p (λ e. by-eq u t (λ d. same' e d) (λ d. other' (λ _. d))) (λ e. other' (λ d. absurd (e d)))
+    split q u same' other' = by_eq q p (λ e. by_eq u t (λ d. same' e d) (λ d. other' (λ _. d))) (λ e. other' (λ d. absurd (e d)))
 
 -- all opens are given by a rule
 pub inv_rule : (f : Facility) (a : Account) (g : ℕ → ℕ) → Inv f a
@@ -63,14 +63,14 @@ pub inv_rule : (f : Facility) (a : Account) (g : ℕ → ℕ) → Inv f a
 inv_rule f a g I R W =
     rw I.sound.shaped.opens
     (inv_opens f a _ I (length_build most_opens g)
-    (λ p t h m. by-test (ltb p most_processes)
+    (λ p t h m. by_test (ltb p most_processes)
     (λ e. let b = ltb-true p most_processes e in R p t b h (rw (
       opens_put f (build most_opens g) p t h,
       at_build most_opens g (place p t)
           (place_below p t b h),
     ) at m))
     (λ e. not_reading (outside (build most_opens g) p t (length_build most_opens g) e) (rw (opens_put f (build most_opens g) p t h) at m)))
-    (λ p t h m. by-test (ltb p most_processes)
+    (λ p t h m. by_test (ltb p most_processes)
     (λ e. let b = ltb-true p most_processes e in W p t b h (rw (
       opens_put f (build most_opens g) p t h,
       at_build most_opens g (place p t)
@@ -94,18 +94,18 @@ pub inv_close_object : (f : Facility) (a : Account) (t : ℕ) → Inv f a → In
 unfolding close_object
 inv_close_object f a t I =
     inv_rule f a _ I
-    (λ q u hq hu m. by-test (eqb (place q u % most_objects) t) (λ e. not_reading {v = 0} refl (rw e at m))
+    (λ q u hq hu m. by_test (eqb (place q u % most_objects) t) (λ e. not_reading {v = 0} refl (rw e at m))
     (λ e. (I.process q).readable u hu (rw (opens_at f q u hu) (rw e at m))))
-    (λ q u hq hu m. by-test (eqb (place q u % most_objects) t) (λ e. not_writing {v = 0} refl (rw e at m))
+    (λ q u hq hu m. by_test (eqb (place q u % most_objects) t) (λ e. not_writing {v = 0} refl (rw e at m))
     (λ e. (I.process q).writable u hu (rw (opens_at f q u hu) (rw e at m))))
 
 pub inv_close_process : (f : Facility) (a : Account) (p : ℕ) → Inv f a → Inv (put_opens f (close_process f.opens p)) a
 unfolding close_process
 inv_close_process f a p I =
     inv_rule f a _ I
-    (λ q u hq hu m. by-test (eqb (place q u / most_objects) p) (λ e. not_reading {v = 0} refl (rw e at m))
+    (λ q u hq hu m. by_test (eqb (place q u / most_objects) p) (λ e. not_reading {v = 0} refl (rw e at m))
     (λ e. (I.process q).readable u hu (rw (opens_at f q u hu) (rw e at m))))
-    (λ q u hq hu m. by-test (eqb (place q u / most_objects) p) (λ e. not_writing {v = 0} refl (rw e at m))
+    (λ q u hq hu m. by_test (eqb (place q u / most_objects) p) (λ e. not_writing {v = 0} refl (rw e at m))
     (λ e. (I.process q).writable u hu (rw (opens_at f q u hu) (rw e at m))))
 
 -- process t gets a copy of p's opens: t's marks are p's
@@ -113,11 +113,11 @@ pub inv_copy : (f : Facility) (a : Account) (p t : ℕ) → Inv f a → process_
 unfolding copy_process
 inv_copy f a p t I e =
     inv_rule f a _ I
-    (λ q u hq hu m. by-test (eqb (place q u / most_objects) t)
+    (λ q u hq hu m. by_test (eqb (place q u / most_objects) t)
     (λ h. subst⁻¹ (λ (x : Process). (on x.running ≡ true) × Knows f.entered (label_of f u) u x) (like q u hu h)
     ((I.process p).readable u hu (rw (opens_at f p u hu) (rw (h, place_object q u hu) at m))))
     (λ h. (I.process q).readable u hu (rw (opens_at f q u hu) (rw h at m))))
-    (λ q u hq hu m. by-test (eqb (place q u / most_objects) t)
+    (λ q u hq hu m. by_test (eqb (place q u / most_objects) t)
     (λ h. subst⁻¹ (λ (x : Process). (on x.running ≡ true) × Reaches f.entered (label_of f u) u x) (like q u hu h)
     ((I.process p).writable u hu (rw (opens_at f p u hu) (rw (h, place_object q u hu) at m))))
     (λ h. (I.process q).writable u hu (rw (opens_at f q u hu) (rw h at m))))

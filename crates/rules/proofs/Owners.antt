@@ -5,7 +5,7 @@ use Rattle.std.proofs.Common.{◌∙◌, ap, subst, arith}
 use borrow.Author.Tests.{ltb-true, eqb-true, eq-eqb, ne_eqb}
 use Rattle.rules.specs.Types.{Answer, NotCared, Call, Process, Facility}
 use Rattle.labels.specs.Decisions.{◌and◌, on}
-use Rattle.labels.proofs.Laws.Decisions.{and_l, clash, by-test}
+use Rattle.labels.proofs.Laws.Decisions.{and_l, clash, by_test}
 use Rattle.answers.specs.Outcomes.{denies, answers_from}
 use Rattle.answers.specs.Answers.{passes}
 use Rattle.state.specs.State.{most_users, process_of, fresh_process, no_process}
@@ -52,17 +52,17 @@ move_owner NoCondition l r = same_owner r
 pub moved_owner : (v : View) (c : Call) → SameOwner (moved v c) v.caller
 unfolding moved
 moved_owner v c =
-    by-test (on v.switches.mac and not (on v.owner.trusted))
+    by_test (on v.switches.mac and not (on v.owner.trusted))
     (λ e. rw e (move_owner (class_in v c) v.target.object.label v.caller)) (λ e. rw e (same_owner v.caller))
 
 pub levelled_owner : (v : View) (c : Call) → SameOwner (levelled v c) v.caller
 unfolding levelled set_level
-levelled_owner v c = by-test (on v.switches.mac) (λ e. rw e (record { running = refl; owner = refl })) (λ e. rw e (same_owner v.caller))
+levelled_owner v c = by_test (on v.switches.mac) (λ e. rw e (record { running = refl; owner = refl })) (λ e. rw e (same_owner v.caller))
 
 pub signalled_owner : (v : View) → SameOwner (signalled v) v.target.receiver
 unfolding signalled
 signalled_owner v =
-    by-test (on v.switches.mac and not (on v.target.owner.trusted))
+    by_test (on v.switches.mac and not (on v.target.owner.trusted))
     (λ e. rw e (record { running = refl; owner = refl })) (λ e. rw e (same_owner v.target.receiver))
 
 -- neither a login nor a cloning: the process that is put has the owner that it had, if it runs at all
@@ -76,7 +76,7 @@ put_owner Clone f c l d = clash refl d
 put_owner SendSignal f c l d = λ r. signalled_owner (view_of f c)
 put_owner SetLevel f c l d = λ r. levelled_owner (view_of f c) c
 put_owner Terminate f c l d = λ r. clash r refl
-put_owner Create f c l d = by-test (in_directory c.extra) (λ e. rw e (λ r. moved_owner (view_of f c) c)) (λ e. rw e tt)
+put_owner Create f c l d = by_test (in_directory c.extra) (λ e. rw e (λ r. moved_owner (view_of f c) c)) (λ e. rw e tt)
 put_owner OnObject f c l d = λ r. moved_owner (view_of f c) c
 put_owner Unknown f c l d = tt
 
@@ -100,15 +100,15 @@ module _ (f : Facility) (c : Call) where
   pub no_start : (q : ℕ) → (is_login (action_of c.request) ≡ true → q ≢ c.process) → is_start last q ≡ false
   unfolding is_start ◌and◌
   no_start q n =
-      by-test (accepted f c)
-      (λ h. by-test (is_login (action_of c.request))
+      by_test (accepted f c)
+      (λ h. by_test (is_login (action_of c.request))
       (λ l. rw (h, l) (ne_eqb c.process q (λ e. n l (sym e)))) (λ l. rw (h, l))) (λ h. rw h)
 
   pub no_cloning : (q : ℕ) → (is_clone (action_of c.request) ≡ true → q ≢ c.target) → is_cloning last q ≡ false
   unfolding is_cloning ◌and◌
   no_cloning q n =
-      by-test (accepted f c)
-      (λ h. by-test (is_clone (action_of c.request))
+      by_test (accepted f c)
+      (λ h. by_test (is_clone (action_of c.request))
       (λ l. rw (h, l) (ne_eqb c.target q (λ e. n l (sym e)))) (λ l. rw (h, l))) (λ h. rw h)
 
 -- the owner after one step more
@@ -149,12 +149,12 @@ module _ (f : Facility) (c : Call) (xs : List Step) where
 
     new_owner : (k : Action) → action_of c.request ≡ k → Passed k (view_of f c) c → New (TellsOwner (last f c ∷ xs)) (put k (view_of f c) c)
     new_owner k e q =
-        by-test (is_login k)
+        by_test (is_login k)
         (λ l.
         let i = is_login_law k l in
         subst⁻¹ (λ (z : Action). New (TellsOwner (last f c ∷ xs)) (put z (view_of f c) c)) i
         (new_login_law (e ∙ i) (subst (λ (z : Action). Passed z (view_of f c) c) i q)))
-        (λ l. by-test (is_clone k)
+        (λ l. by_test (is_clone k)
         (λ d. let i = is_clone_law k d in subst⁻¹ (λ (z : Action). New (TellsOwner (last f c ∷ xs)) (put z (view_of f c) c)) i (new_clone_law (e ∙ i)))
         (λ d. kept_owner k e l d (put k (view_of f c) c) (put_owner k f c l d)))
 
@@ -174,7 +174,7 @@ module _ (f : Facility) (c : Call) (xs : List Step) where
 pub owned_after : (f : Facility) (c : Call) (xs : List Step) → Sound f → Owned xs f → Owned (last f c ∷ xs) (after f c)
 unfolding after
 owned_after f c xs S O =
-    by-test (accepted f c)
+    by_test (accepted f c)
     (λ h. rw h (owner_accepted f c xs S h O))
     (λ h.
     let N : Owned (last f c ∷ xs) f = λ p r. let o = O p r in (o.0, o.1 ∙ sym (owner_unaccepted f c xs h p)) in
@@ -202,13 +202,13 @@ login_granted : (v : View) (c : Call) → passes (answers Login v c).combined �
 unfolding answers answers_from mac_answer fc_answer sim_answer ff_answer mac_rule passes
 login_granted v c =
     rw (uncared (on v.switches.fc) _, uncared (on v.switches.sim) _, uncared (on v.switches.ff) _)
-    (by-test (on v.switches.mac) (λ m. rw m) (λ m. rw m))
+    (by_test (on v.switches.mac) (λ m. rw m) (λ m. rw m))
 
 denied_runs : (k : Action) (v : View) (c : Call) → denies (number_by k v c) ≡ true → on v.caller.running ≡ true
 unfolding is_running
 denied_runs k v c h =
     let j = judged k v c h in
-    by-test (is_login k)
+    by_test (is_login k)
     (λ l. clash (login_granted v c) (subst (λ (z : Action). passes (answers z v c).combined ≡ false) (is_login_law k l) j.answer))
     (λ l. and_l _ _ (rw l at j.running))
 

@@ -1,7 +1,7 @@
 -- The records before a record: how many are of a kind, and what their places tell.
 use Rattle.std.specs.Prelude.{ℕ, suc, ◌+◌, ◌≤◌, ◌<◌, ◌≡◌, refl, ◌≢◌, true, List, [], ◌∷◌, ◌++◌, leb}
 use Rattle.std.proofs.Common.{ap, arith, leb-true, eqb-true, eq-eqb, ne_eqb}
-use Rattle.labels.proofs.Laws.Decisions.{and_l, and_r, by-eq}
+use Rattle.labels.proofs.Laws.Decisions.{and_l, and_r, by_eq}
 use Rattle.rules.specs.Kinds.{SetupRecord, kind_of, place_of, count_of, fits}
 use Rattle.rules.proofs.Records.{one_place}
 
@@ -38,7 +38,7 @@ pub under_none : (k : ℕ) (past : List SetupRecord) → Under (kind_of k).place
 unfolding count_of
 under_none k [] h = refl
 under_none k (q ∷ past) h =
-    by-eq q.kind k
+    by_eq q.kind k
     (λ e.
     let b : place_of q < (kind_of k).place = h.0 in
     let z : place_of q ≡ (kind_of k).place = ap (λ (n : ℕ). (kind_of n).place) e in

@@ -3,7 +3,7 @@ use Rattle.std.specs.Prelude.{ℕ, ◌<◌, ◌≡◌, refl, ◌≢◌, true, co
 use Rattle.std.proofs.Math.Path.{subst⁻¹}
 use Rattle.std.proofs.Common.{subst, ltb-true}
 use Rattle.rules.specs.Types.{Call, Process, Object, Facility}
-use Rattle.labels.proofs.Laws.Decisions.{by-test, by-eq}
+use Rattle.labels.proofs.Laws.Decisions.{by_test, by_eq}
 use Rattle.state.specs.Shaped.{Shaped}
 use Rattle.state.specs.Laws.ReadBack.{process_same, process_other}
 use Rattle.answers.specs.Outcomes.{denies}
@@ -27,7 +27,7 @@ Each P f = (p : ℕ) → P p (process_of f p)
 pub each : (f : Facility) (p : ℕ) (r : Process) (P : ℕ → Process → Type 0) → Shaped f → p < most_processes
     → P p r → ((q : ℕ) → q ≢ p → P q (process_of f q)) → Each P (put_process f p r)
 each f p r P s h new old q =
-    by-eq q p
+    by_eq q p
     (λ e. subst⁻¹ (λ (k : ℕ). P k (process_of (put_process f p r) k)) e (subst⁻¹ (P p) (process_same f p r s h) new))
     (λ n. subst⁻¹ (P q) (process_other f p q r n) (old q n))
 
@@ -41,7 +41,7 @@ open_process CloseAll f p t q = refl
 
 add_process : (f : Facility) (o : Object) (q : ℕ) → process_of (add_object f o) q ≡ process_of f q
 unfolding add_object put_object
-add_process f o q = by-test (ltb f.entered most_objects) (λ e. rw e) (λ e. rw e)
+add_process f o q = by_test (ltb f.entered most_objects) (λ e. rw e) (λ e. rw e)
 
 -- MAC's switch, the users and the counters of refusals, which no accepted call changes
 abbrev pub untouched : Facility → ℕ × Users × List ℕ
@@ -101,7 +101,7 @@ each_effect P SendSignal f c s q new old = each f c.target _ P s (ltb-true _ _ q
 each_effect P SetLevel f c s q new old = each f c.process _ P s q.process new old
 each_effect P Terminate f c s q new old = each f c.process _ P s q.process new old
 each_effect P Create f c s q new old =
-    by-test (in_directory c.extra)
+    by_test (in_directory c.extra)
     (λ e.
     let E = each f c.process _ P s q.process (rw e at new) (rw e at old) in
     rw e (λ p. subst⁻¹ (P p) (add_process (put_process f c.process (moved (view_of f c) c)) _ p) (E p)))
@@ -121,4 +121,4 @@ process_put k f c p r s q e =
 -- a refused call leaves the processes
 pub each_refused : (P : ℕ → Process → Type 0) (f : Facility) (u n : ℕ) → Each P f → Each P (after_refusal f u n)
 unfolding after_refusal counted put_refusals
-each_refused P f u n E = by-test (denies n) (λ d. rw d E) (λ d. rw d E)
+each_refused P f u n E = by_test (denies n) (λ d. rw d E) (λ d. rw d E)

@@ -2,7 +2,7 @@
 use Rattle.std.specs.Prelude.{ℕ, ◌≤◌, ◌≡◌, refl, Bool, true, false, not, cond, List, leb, eqb}
 use Rattle.std.proofs.Common.{sym, ◌∙◌, ap, subst, arith, eqb-true, ne_eqb}
 use Rattle.labels.specs.Decisions.{◌and◌, ask}
-use Rattle.labels.proofs.Laws.Decisions.{and_l, and_r, clash, by-eq, ask_yes, ask_later, ask_i}
+use Rattle.labels.proofs.Laws.Decisions.{and_l, and_r, clash, by_eq, ask_yes, ask_later, ask_i}
 use Rattle.rules.specs.Kinds.{SetupRecord, Byte, Zero, Upto, OrUnset, Bits, Kind, no_kind, kind_of, fits, room, byte_allowed, allowed_by, allowed}
 use Rattle.rules.specs.Kinds.{parent_fits, record_number}
 
@@ -91,17 +91,17 @@ nineteen past r = four (fits past r) (room past r) (allowed past r) (parent_fits
     four true true true true = refl
 
 -- The kinds by cases: the one place beside the table that lists them. The first record is 3, a later one any other kind of the table.
-pub by-any {ℓ} : {A : Type ℓ} (k : ℕ) → (k ≡ 3 → A) → (k ≡ 1 → A) → (k ≡ 2 → A) → (kind_of k ≡ no_kind → A) → A
+pub by_any {ℓ} : {A : Type ℓ} (k : ℕ) → (k ≡ 3 → A) → (k ≡ 1 → A) → (k ≡ 2 → A) → (kind_of k ≡ no_kind → A) → A
 unfolding kind_of
-by-any k c3 c1 c2 none =
-    by-eq k 3 c3
-    (λ n3. by-eq k 1 c1
-    (λ n1. by-eq k 2 c2
+by_any k c3 c1 c2 none =
+    by_eq k 3 c3
+    (λ n3. by_eq k 1 c1
+    (λ n1. by_eq k 2 c2
     (λ n2. none (rw (ne_eqb k 3 n3, ne_eqb k 1 n1, ne_eqb k 2 n2)))))
 
 pub first_kind : (k : ℕ) → eqb (kind_of k).place 1 ≡ true → k ≡ 3
 unfolding kind_of
-first_kind k h = by-any k (λ e. e) (λ e. no e refl) (λ e. no e refl) (λ z. clash h (ap (λ (d : Kind). eqb d.place 1) z))
+first_kind k h = by_any k (λ e. e) (λ e. no e refl) (λ e. no e refl) (λ z. clash h (ap (λ (d : Kind). eqb d.place 1) z))
   where
     no : {j : ℕ} → k ≡ j → eqb (kind_of j).place 1 ≡ false → k ≡ 3
     no {j} e f = clash h (ap (λ (i : ℕ). eqb (kind_of i).place 1) e ∙ f)
@@ -109,7 +109,7 @@ first_kind k h = by-any k (λ e. e) (λ e. no e refl) (λ e. no e refl) (λ z. c
 pub by_kind {ℓ} : {A : Type ℓ} (k : ℕ) → leb 2 (kind_of k).place ≡ true → (k ≡ 1 → A) → (k ≡ 2 → A) → A
 unfolding kind_of
 by_kind k h c1 c2 =
-    by-any k (λ e. clash h (ap (λ (i : ℕ). leb 2 (kind_of i).place) e)) c1 c2 (λ z. clash h (ap (λ (d : Kind). leb 2 d.place) z))
+    by_any k (λ e. clash h (ap (λ (i : ℕ). leb 2 (kind_of i).place) e)) c1 c2 (λ z. clash h (ap (λ (d : Kind). leb 2 d.place) z))
 
 -- no two kinds have one place
 kind_at : ℕ → ℕ
@@ -118,7 +118,7 @@ kind_at p = cond (eqb p 1) 3 (cond (eqb p 2) 1 2)
 kind_at_law : (k : ℕ) → 1 ≤ (kind_of k).place → kind_at (kind_of k).place ≡ k
 unfolding kind_of kind_at
 kind_at_law k h =
-    by-any k (λ e. rw e refl) (λ e. rw e refl) (λ e. rw e refl)
+    by_any k (λ e. rw e refl) (λ e. rw e refl) (λ e. rw e refl)
     (λ z. let y : (kind_of k).place ≡ 0 = ap (λ d. d.place) z in absurd (omega arith))
 
 pub one_place : (j k : ℕ) → 1 ≤ (kind_of j).place → (kind_of j).place ≡ (kind_of k).place → j ≡ k

@@ -4,7 +4,7 @@ use Rattle.std.specs.Prelude.{ℕ, ◌≤◌, ◌≡◌, ◌≢◌, true, false,
 use Rattle.std.proofs.Common.{arith, eqb-true, ne_eqb}
 use Rattle.rules.specs.Types.{Call, Facility}
 use Rattle.labels.specs.Decisions.{◌or◌}
-use Rattle.labels.proofs.Laws.Decisions.{or_cases, by-test}
+use Rattle.labels.proofs.Laws.Decisions.{or_cases, by_test}
 use Rattle.answers.specs.Outcomes.{denies, outcome_of, number_of}
 use Rattle.answers.proofs.Laws.Outcomes.{outcome_number}
 use Rattle.state.specs.State.{put_refusals, counted}
@@ -32,7 +32,7 @@ denied_not_zero n h =
 
 refusal_kept : (f : Facility) (u n : ℕ) → after_refusal f u n ≡ put_refusals f (after_refusal f u n).refusals
 unfolding after_refusal counted put_refusals
-refusal_kept f u n = by-test (denies n) (λ h. rw h) (λ h. rw h)
+refusal_kept f u n = by_test (denies n) (λ h. rw h) (λ h. rw h)
 
 unchanged' : (f : Facility) (c : Call) → accepted f c ≡ false → after f c ≡ put_refusals f (after f c).refusals
 unfolding after

@@ -6,7 +6,7 @@ use Rattle.std.proofs.Math.Path.{subst⁻¹}
 use Rattle.std.proofs.Math.Bool.{true}
 use Rattle.rules.specs.Types.{Call, Process, User, Object, Facility}
 use Rattle.labels.specs.Decisions.{◌and◌, ◌or◌, on}
-use Rattle.labels.proofs.Laws.Decisions.{and_l, and_r, or_cases, clash, by-test, by-eq}
+use Rattle.labels.proofs.Laws.Decisions.{and_l, and_r, or_cases, clash, by_test, by_eq}
 use Rattle.state.specs.Laws.ReadBack.{user_new, user_old, object_new, object_old, add_object_law}
 use Rattle.opens.specs.Laws.Loops.{length_object_closed, length_process_closed, length_process_copied}
 use Rattle.answers.specs.Outcomes.{denies}
@@ -109,7 +109,7 @@ regular_user f u R h a =
       sound = sound_user f u h R.sound;
       switches = R.switches;
       user = λ v b.
-          by-eq v f.users
+          by_eq v f.users
           (λ e. subst⁻¹ (λ (k : ℕ). allowed_by users_kind (user_record (user_of (put_user f u) k)) ≡ true) e (rw (user_new f u R.sound.shaped h) a))
           (λ n. rw (user_old f u v n) (R.user v (omega arith)));
       object = R.object;
@@ -121,7 +121,7 @@ regular_user f u R h a =
 parents_new : (f : Facility) (o : Object) → Regular f → f.entered < most_objects → ParentFit f f.entered o.parent
     → (t : ℕ) → t < f.entered + 1 → ParentFit (put_object f o) t (object_of (put_object f o) t).parent
 parents_new f o R h pf t b =
-    by-eq t f.entered
+    by_eq t f.entered
     (λ e. subst⁻¹ (λ (k : ℕ). ParentFit (put_object f o) k (object_of (put_object f o) k).parent) e
     (subst⁻¹ (λ (x : Object). ParentFit (put_object f o) f.entered x.parent) (object_new f o R.sound.shaped h)
     (old f.entered o.parent (omega arith) pf)))
@@ -140,7 +140,7 @@ regular_object f o R h a pf =
       switches = R.switches;
       user = R.user;
       object = λ t b.
-          by-eq t f.entered
+          by_eq t f.entered
           (λ e. subst⁻¹ (λ (k : ℕ). allowed_by objects_kind (object_record (object_of (put_object f o) k)) ≡ true) e (rw (object_new f o R.sound.shaped h) a))
           (λ n. rw (object_old f o t n) (R.object t (omega arith)));
       parent = parents_new f o R h pf;
@@ -169,14 +169,14 @@ allowed_clearance u h = label_lawful _ _ (and_l _ _ h) (and_l _ _ (and_r _ _ (an
 first_parent_small : (e t : ℕ) → first_parent e t ≤ 255
 unfolding first_parent
 first_parent_small e t =
-    by-test (in_directory e and ltb t most_objects)
+    by_test (in_directory e and ltb t most_objects)
     (λ d. let b : t < most_objects = ltb-true _ _ (and_r _ _ d) in rw d (omega arith))
     (λ d. rw d (omega arith))
 
 created_allowed : (r : Process) (e t : ℕ) → LawfulProcess r → leb e 3 ≡ true → allowed_by objects_kind (object_record (created r e t)) ≡ true
 unfolding allowed_by first_flags ◌and◌ ◌or◌
 created_allowed r e t L h =
-    by-test (in_directory e)
+    by_test (in_directory e)
     (λ d. rw (h, lawful_level _ L.current, d, le-leb _ 255 (first_parent_small e t), lawful_set _ L.current, lawful_not_unset _ L.current) refl)
     (λ d. rw (h, lawful_level _ L.current, d, le-leb _ 255 (first_parent_small e t), lawful_set _ L.current, lawful_not_unset _ L.current) refl)
 
@@ -184,7 +184,7 @@ created_allowed r e t L h =
 created_parent : (f : Facility) (r : Process) (e t : ℕ) → t < f.entered → kind_at f t ≡ 1 → ParentFit f f.entered (created r e t).parent
 unfolding first_parent
 created_parent f r e t h k =
-    by-test (in_directory e and ltb t most_objects)
+    by_test (in_directory e and ltb t most_objects)
     (λ d. rw d (λ z. let w : t + 1 - 1 ≡ t = omega arith in (omega arith, ap (kind_at f) w ∙ k)))
     (λ d. rw d (λ z. absurd (z refl)))
 
@@ -215,8 +215,8 @@ moved_lawful : (v : View) (c : Call) → LawfulProcess v.caller → allowed_by o
     → (on v.switches.mac ≡ true → passes (mac_object (class_in v c) v.target.object v.caller v.owner) ≡ true) → LawfulProcess (moved v c)
 unfolding moved ◌and◌
 moved_lawful v c L a p =
-    by-test (on v.switches.mac)
-    (λ m. by-test (on v.owner.trusted)
+    by_test (on v.switches.mac)
+    (λ m. by_test (on v.owner.trusted)
     (λ t. rw (m, t) L)
     (λ t.
     let (g, q) = object_granted (class_in v c) v.target.object v.caller v.owner t (p m) in
@@ -232,7 +232,7 @@ levelled_lawful : (v : View) (c : Call) → LawfulProcess v.caller → (on v.swi
     → LawfulProcess (levelled v c)
 unfolding levelled set_level
 levelled_lawful v c L h =
-    by-test (on v.switches.mac)
+    by_test (on v.switches.mac)
     (λ m. rw m (record { current = below_lawful _ _ (set_under v c (h m)) L.writemark; readmark = L.readmark; writemark = L.writemark }))
     (λ m. rw m L)
 
@@ -240,7 +240,7 @@ levelled_lawful v c L h =
 signalled_lawful : (v : View) → LawfulProcess v.target.receiver → LawfulProcess (signalled v)
 unfolding signalled
 signalled_lawful v L =
-    by-test (on v.switches.mac and not (on v.target.owner.trusted))
+    by_test (on v.switches.mac and not (on v.target.owner.trusted))
     (λ e. rw e (record { current = L.current; readmark = L.current; writemark = L.writemark }))
     (λ e. rw e L)
 
@@ -269,7 +269,7 @@ module _ (f : Facility) (c : Call) (R : Regular f) where
   regular_create : action_of c.request ≡ Create → Passed Create (view_of f c) c → Regular (effect_by Create f c)
   unfolding effect_from mac_rule
   regular_create k q =
-      by-test (in_directory c.extra)
+      by_test (in_directory c.extra)
       (λ e.
       let v : live f c.target ≡ true = rw e at q.alive in
       let a = object_there v in
@@ -311,12 +311,12 @@ module _ (f : Facility) (c : Call) (R : Regular f) where
 
 regular_refused : (f : Facility) (u n : ℕ) → Regular f → Regular (after_refusal f u n)
 unfolding after_refusal
-regular_refused f u n R = by-test (denies n) (λ d. rw d (regular_counted f u R)) (λ d. rw d R)
+regular_refused f u n R = by_test (denies n) (λ d. rw d (regular_counted f u R)) (λ d. rw d R)
 
 pub regular_after : (f : Facility) (c : Call) → Regular f → Regular (after f c)
 unfolding after
 regular_after f c R =
-    by-test (accepted f c)
+    by_test (accepted f c)
     (λ h. rw h (regular_effect f c R (action_of c.request) refl (passed (action_of c.request) (view_of f c) c (accepted_zero f c h))))
     (λ h. rw h (regular_refused f (owner_in f c) (number f c) R))
 

@@ -6,7 +6,7 @@ use Rattle.std.proofs.Math.Path.{subst⁻¹}
 use Rattle.std.proofs.Math.Seq.{take-append_seam}
 use Rattle.std.proofs.lemmas.Bool.{lt-leb}
 use Rattle.rules.specs.Types.{User, Object, Facility}
-use Rattle.labels.proofs.Laws.Decisions.{and_l, and_r, and_i, clash, by-test}
+use Rattle.labels.proofs.Laws.Decisions.{and_l, and_r, and_i, clash, by_test}
 use Rattle.state.specs.State.{objects_in, object_in, object_of, live, switches_of, all_off, blank}
 use Rattle.rules.specs.Histories.{run}
 use Rattle.rules.specs.Kinds.{kind_of}
@@ -44,7 +44,7 @@ pub as_written : (s : List ℕ) → is_accepted (read_setup s).outcome ≡ true
     → (sized s ≡ true) × (setup_records (read_setup s).facility ≡ records_in s)
 unfolding read_setup
 as_written s h =
-    by-test (sized s)
+    by_test (sized s)
     (λ e.
     let J = read_accepted [] (records_in s) (blank all_off) (rw e at h) in
     rw (e, accepted_read [] (records_in s) (blank all_off) J) (refl, from_records (length s / 8) s (sized_length s e).1 J))

@@ -4,7 +4,7 @@ use Rattle.std.proofs.Common.{sym, ◌∙◌, ap, arith}
 use Rattle.std.proofs.Math.Path.{subst⁻¹}
 use Rattle.rules.specs.Types.{Process}
 use Rattle.labels.specs.Decisions.{◌and◌, ◌or◌, on}
-use Rattle.labels.proofs.Laws.Decisions.{and_l, and_r, or_cases, clash, by-test}
+use Rattle.labels.proofs.Laws.Decisions.{and_l, and_r, or_cases, clash, by_test}
 use Rattle.state.specs.State.{is_automatic, fresh_process}
 use Rattle.labels.specs.Labels.{Label, same, join, rank, ◌⊑◌}
 use Rattle.labels.proofs.Laws.Labels.{⊑_refl, ⊑_trans, ⊑-antisym, same_eq, eq_same, join_l, join_r, join_least, meet_r, meet_greatest, bottom_least}
@@ -44,7 +44,7 @@ free_settled : (n : ℕ) (clr : Label) (r : Process) → Ordered r → r.current
 free_settled n clr r o c F = record { ordered = o; cleared = c; most = free_most n clr r o c F; free = λ a. F }
 
 not_same : (a b : Label) → same a b ≡ false → same b a ≡ false
-not_same a b h = by-test (same b a) (λ t. clash (eq_same a b (sym (same_eq b a t))) h) (λ t. t)
+not_same a b h = by_test (same b a) (λ t. clash (eq_same a b (sym (same_eq b a t))) h) (λ t. t)
 
 -- R, up to the write mark
 read_free : (n : ℕ) (clr l : Label) (r : Process) → join r.current l ⊑ r.writemark → Free n clr r
@@ -52,7 +52,7 @@ read_free : (n : ℕ) (clr l : Label) (r : Process) → join r.current l ⊑ r.w
 unfolding move_by
 read_free n clr l r u (rising e h) =
     rising (ap (λ (x : Label). join x l) e)
-    (by-test (same (join r.current l) r.current)
+    (by_test (same (join r.current l) r.current)
     (λ s. rw s (let a = rank_up _ _ (join_l r.current l) in omega arith))
     (λ s. rw s (let a = rank_over r.current (join r.current l) (join_l _ _) (not_same _ _ s) in omega arith)))
 read_free n clr l r u (falling e h) =
@@ -70,7 +70,7 @@ pub record Between (clr l : Label) (r : Process) : Type 0 where
 lower : (n : ℕ) (clr l : Label) (r : Process) → l ⊑ r.writemark → r.current ≡ r.writemark
     → n + rank r.current ≤ rank r.readmark + rank clr + 1 → more (not (same l r.current)) n + rank l ≤ rank r.readmark + rank clr + 1
 lower n clr l r u e h =
-    by-test (same l r.current)
+    by_test (same l r.current)
     (λ s. rw s (let b = ap rank (same_eq _ _ s) in omega arith))
     (λ s. rw s (let a = rank_over l r.current (subst⁻¹ (λ (x : Label). l ⊑ x) e u) s in omega arith))
 
@@ -78,7 +78,7 @@ write_free : (n : ℕ) (clr l : Label) (r : Process) → Between clr l r → Fre
     → Free (more (not (same l r.current)) n) clr (move_by Writes l r)
 unfolding move_by
 write_free n clr l r B (rising e h) =
-    by-test (same l r.current)
+    by_test (same l r.current)
     (λ s. rw s (rising (same_eq _ _ s ∙ e) (let b = ap rank (same_eq _ _ s) in omega arith)))
     (λ s. rw s (falling (⊑-antisym _ _ (meet_greatest _ _ _ B.high (⊑_refl _)) (meet_r _ _))
     (let a = rank_up _ _ B.cleared in let b = ap rank e in omega arith)))
@@ -90,7 +90,7 @@ both_free : (n : ℕ) (clr l : Label) (r : Process) → Between clr l r → Free
 unfolding move_by
 both_free n clr l r B (rising e h) =
     rising refl
-    (by-test (same l r.current)
+    (by_test (same l r.current)
     (λ s. rw s (let b = ap rank (same_eq _ _ s) in omega arith))
     (λ s. rw s (let a = rank_over r.current l (subst⁻¹ (λ (x : Label). x ⊑ l) e B.low) (not_same _ _ s) in omega arith)))
 both_free n clr l r B (falling e h) =
@@ -101,7 +101,7 @@ settled_to : (n : ℕ) (clr : Label) (r s : Process) → Settled n clr r → s.a
     → (is_automatic r ≡ true → Free (more (not (same s.current r.current)) n) clr s) → (is_automatic r ≡ false → s.current ≡ r.current)
     → Settled (more (not (same s.current r.current)) n) clr s
 settled_to n clr r s S e o c F h =
-    by-test (is_automatic r)
+    by_test (is_automatic r)
     (λ a. free_settled _ clr s o c (F a))
     (λ a. record {
       ordered = o;

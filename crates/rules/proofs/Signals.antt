@@ -5,7 +5,7 @@ use Rattle.std.proofs.lemmas.List.{set-get_or}
 use borrow.Author.Tests.{eq-eqb, ne_eqb}
 use Rattle.rules.specs.Types.{Call, Facility}
 use Rattle.labels.specs.Decisions.{◌and◌, on}
-use Rattle.labels.proofs.Laws.Decisions.{by-test}
+use Rattle.labels.proofs.Laws.Decisions.{by_test}
 use Rattle.state.specs.State.{process_in, process_of, trusted_user, users_in, objects_in, processes_from, with_levels, with, put_process}
 use Rattle.labels.specs.Labels.{Label}
 use Rattle.rules.specs.Effects.{effect_from}
@@ -64,7 +64,7 @@ module _ (f : Facility) (c : Call) (S : AcceptedSignal f c) where
 
   not_untrusted : trusted_user f (receiver_owner f c) ≡ true → after f c ≡ f
   unfolding signalled ◌and◌
-  not_untrusted u = unraised (by-test (on f.mac) (λ m. rw (m, u)) (λ m. rw m))
+  not_untrusted u = unraised (by_test (on f.mac) (λ m. rw (m, u)) (λ m. rw m))
 
   same_level : on f.mac ≡ true → trusted_user f (owner_in f c) ≡ false → (process_of f c.process).current ≡ (process_of f c.target).current
   same_level m u =

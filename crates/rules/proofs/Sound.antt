@@ -6,7 +6,7 @@ use Rattle.std.proofs.Common.{get_or-set_same, get_or-set_other, arith, ltb-true
 use Rattle.std.proofs.Math.Seq.{set_out}
 use Rattle.rules.specs.Types.{Switches, Process, User, Object, Facility}
 use Rattle.labels.specs.Decisions.{at, on}
-use Rattle.labels.proofs.Laws.Decisions.{clash, by-test, by-eq}
+use Rattle.labels.proofs.Laws.Decisions.{clash, by_test, by_eq}
 use Rattle.state.specs.Shaped.{Shaped}
 use Rattle.state.specs.Laws.ReadBack.{object_old, shaped_process, shaped_opens, shaped_user, shaped_object, shaped_drop, shaped_counted}
 use Rattle.state.specs.State.{most_users, process_in, object_in, process_of, live, opens_of, put_process, put_opens, put_user, put_object, drop_object, put_refusals}
@@ -48,7 +48,7 @@ sound_object f o h S =
       users = S.users;
       entered = omega arith;
       alive = λ t u.
-          by-eq t f.entered (λ e. omega arith)
+          by_eq t f.entered (λ e. omega arith)
           (λ n. let k : t < f.entered = S.alive t (rw (object_old f o t n) at u) in omega arith);
     }
 
@@ -56,7 +56,7 @@ sound_object f o h S =
 dropped : (f : Facility) (t : ℕ) → Sound f → on (at (set f.lives t 0) t) ≡ true → t < f.entered
 unfolding object_in
 dropped f t S h =
-    by-test (ltb t most_objects)
+    by_test (ltb t most_objects)
     (λ e. let b : t < most_objects = ltb-true t most_objects e in
     clash h (rw (get_or-set_same f.lives t 0 0 (omega (arith, S.shaped.objects.lives))) refl))
     (λ e. let b : most_objects ≤ t = ltb-false t most_objects e in
@@ -70,7 +70,7 @@ sound_drop f t S =
       users = S.users;
       entered = S.entered;
       alive = λ u h.
-          by-eq u t
+          by_eq u t
           (λ e. subst⁻¹ (λ (k : ℕ). k < f.entered) e (dropped f t S (rw e at h)))
           (λ n. S.alive u (rw (get_or-set_other f.lives t u 0 0 n) at h));
     }

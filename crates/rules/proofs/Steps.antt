@@ -4,7 +4,7 @@ use Rattle.std.proofs.Common.{sym, ◌∙◌, subst, arith, ltb-true, eqb-true, 
 use Rattle.std.proofs.lemmas.Bool.{not-true}
 use Rattle.rules.specs.Types.{Call, Process, Facility}
 use Rattle.labels.specs.Decisions.{◌and◌}
-use Rattle.labels.proofs.Laws.Decisions.{or_cases, clash, by-test}
+use Rattle.labels.proofs.Laws.Decisions.{or_cases, clash, by_test}
 use Rattle.state.specs.Laws.ReadBack.{process_same, process_other, add_object_law, opens_put}
 use Rattle.opens.specs.Laws.Opens.{terminated_opens}
 use Rattle.answers.specs.Outcomes.{denies}
@@ -226,7 +226,7 @@ step_create : (f : Facility) (a : Account) (c : Call) → Inv f a → action_of 
     → Inv (effect_by Create f c) (carry_by Create a c)
 unfolding effect_from carry_by mac_rule put_process
 step_create f a c I k q =
-    by-test (in_directory c.extra)
+    by_test (in_directory c.extra)
     (λ e.
     let v : live f c.target ≡ true = rw e at q.alive in
     let n : not (is_absent (class_in (view_of f c) c)) ≡ true = rw e at q.class in
@@ -274,9 +274,9 @@ module _ (f : Facility) (a : Account) (c : Call) (I : Inv f a) (q : Passed OnObj
   carried : Inv (put_process f c.process (moved (view_of f c) c)) (carry (class_in (view_of f c) c) a c)
   unfolding carry
   carried =
-      by-test (takes c.request (class_in (view_of f c) c))
+      by_test (takes c.request (class_in (view_of f c) c))
       (λ h. rw h (take_now f a c I q.process q.running q.alive G (take_below h)))
-      (λ h. rw h (by-test (gives c.request (class_in (view_of f c) c))
+      (λ h. rw h (by_test (gives c.request (class_in (view_of f c) c))
       (λ k. rw k (give_now f a c I q.process q.running q.alive G (give_over k)))
       (λ k. rw k (inv_now f a c I q.process q.running q.alive G))))
 
@@ -323,6 +323,6 @@ pub inv_after : (f : Facility) (a : Account) (c : Call) → Inv f a → trusted_
     → Inv (after f c) (after_entry a (record { call = c; accepted = accepted f c }))
 unfolding after after_entry trusted_login after_refusal ◌and◌
 inv_after f a c I u =
-    by-test (accepted f c)
+    by_test (accepted f c)
     (λ h. rw h (step (action_of c.request) f a c I refl (rw h at u) (passed (action_of c.request) (view_of f c) c (accepted_zero f c h))))
-    (λ h. rw h (by-test (denies (number f c)) (λ e. rw e (inv_counted f a _ I)) (λ e. rw e I)))
+    (λ h. rw h (by_test (denies (number f c)) (λ e. rw e (inv_counted f a _ I)) (λ e. rw e I)))

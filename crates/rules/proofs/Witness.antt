@@ -5,7 +5,7 @@ use Rattle.std.proofs.Common.{sym, ◌∙◌, subst₂, length-set}
 use borrow.Author.Tests.{eqb-true, eq-eqb}
 use Rattle.rules.specs.Types.{Call, Process, Facility}
 use Rattle.labels.specs.Decisions.{◌and◌, ◌or◌, asked, on}
-use Rattle.labels.proofs.Laws.Decisions.{or_l, or_r, clash, by-test}
+use Rattle.labels.proofs.Laws.Decisions.{or_l, or_r, clash, by_test}
 use Rattle.state.specs.Laws.Outside.{one_pair}
 use Rattle.state.specs.Shaped.{Shaped}
 use Rattle.state.specs.Laws.ReadBack.{process_same, shaped_process, shaped_opens}
@@ -158,7 +158,7 @@ module _ (p : ℕ) (f₀ f : Facility) (a : Account) (u : ℕ) (r : Process) (q 
   carry_kinds : (x : ℕ) → (carry k a (by p q t)).kinds x ≡ a.kinds x
   unfolding carry process_gains object_gains
   carry_kinds x =
-      by-test (takes q k) (λ h. rw h) (λ h. rw h (by-test (gives q k) (λ e. rw e) (λ e. rw e)))
+      by_test (takes q k) (λ h. rw h) (λ h. rw h (by_test (gives q k) (λ e. rw e) (λ e. rw e)))
 
   effect_is : (o : OpenChange) → open_change q ≡ o
       → effect_by OnObject f (by p q t) ≡ open_by o (put_process f p (move_by k (label_of f₀ t) r)) p t
@@ -240,13 +240,13 @@ module _ (p : ℕ) (a : Account) (q t : ℕ) (k : Class) (x : ℕ) where
   pub carry_keeps : a.processes p x ≡ true → (carry k a (by p q t)).processes p x ≡ true
   unfolding carry process_gains object_gains
   carry_keeps h =
-      by-test (takes q k) (λ e. rw (e, eq-eqb p p refl) (or_l _ _ h)) (λ e. rw e (by-test (gives q k) (λ d. rw d h) (λ d. rw d h)))
+      by_test (takes q k) (λ e. rw (e, eq-eqb p p refl) (or_l _ _ h)) (λ e. rw e (by_test (gives q k) (λ d. rw d h) (λ d. rw d h)))
 
   pub carry_keeps_object : (y : ℕ) → a.objects y x ≡ true → (carry k a (by p q t)).objects y x ≡ true
   unfolding carry process_gains object_gains
   carry_keeps_object y h =
-      by-test (takes q k) (λ e. rw e h) (λ e. rw e (by-test (gives q k)
-      (λ d. rw d (by-test (eqb t y) (λ w. rw w (or_l _ _ (rw (eqb-true t y w) h))) (λ w. rw w h)))
+      by_test (takes q k) (λ e. rw e h) (λ e. rw e (by_test (gives q k)
+      (λ d. rw d (by_test (eqb t y) (λ w. rw w (or_l _ _ (rw (eqb-true t y w) h))) (λ w. rw w h)))
       (λ d. rw d h)))
 
   pub carry_takes : takes q k ≡ true → a.objects t x ≡ true → (carry k a (by p q t)).processes p x ≡ true

@@ -9,7 +9,7 @@ use lib.Seq.{drop-cons, drop-length, length-sets}
 use native.Mathlib.Omega.{arith}
 use borrow.Author.Tests.{ne_eqb}
 use Rattle.labels.specs.Decisions.{◌and◌, ◌or◌, at}
-use Rattle.labels.proofs.Laws.Decisions.{by-test}
+use Rattle.labels.proofs.Laws.Decisions.{by_test}
 use Rattle.text.specs.Stored.{Stored}
 use Rattle.text.specs.Laws.Stored.{then, as_text}
 use Rattle.words.specs.Patterns.{said, signs, filled_from}
@@ -37,9 +37,9 @@ said_itself x n a b c d e f g h i j k l m =
 
 pub at_most_one : (x : ℕ) → signs x ≤ 1
 at_most_one x =
-    by-test (eqb x 42)
+    by_test (eqb x 42)
     (λ s. rw s (omega arith))
-    (λ s. by-test ((ltb 32 x and ltb x 40) or (ltb 59 x and ltb x 65)) (λ t. rw (s, t) (omega arith)) (λ t. rw (s, t) (omega arith)))
+    (λ s. by_test ((ltb 32 x and ltb x 40) or (ltb 59 x and ltb x 65)) (λ t. rw (s, t) (omega arith)) (λ t. rw (s, t) (omega arith)))
 
 -- with the buffer o and the place p as they are, the text xs makes the whole text ys stored at q of the buffer l
 abbrev pub Leaves : List ℕ → ℕ → List ℕ → List ℕ → ℕ → List ℕ → Type 0

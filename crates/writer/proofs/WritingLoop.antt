@@ -12,10 +12,10 @@ use borrow.Author.Tests.{le-leb, lt-leb, eq-eqb, ne_eqb}
 use Rattle.rules.specs.declared.SetupRecord.{SetupRecord}
 use Rattle.writer.specs.Writing.{section_of, put_one, put_all, Stored, live_record, lives_only}
 use Rattle.labels.specs.Decisions.{on}
-use Rattle.labels.proofs.Laws.Decisions.{by-test}
+use Rattle.labels.proofs.Laws.Decisions.{by_test}
 use Rattle.rules.specs.Setup.{bytes_of, listed, object_record, with_parent, renumbered, bytes_of_all, write_setup, setup_records, setup_bytes}
 use Rattle.rules.proofs.Parents.{parent_same}
-use Rattle.rules.proofs.Bytes.{map-append, map-length, bytes_length}
+use Rattle.rules.proofs.Bytes.{map_append, map_length, bytes_length}
 use Rattle.rules.proofs.Listed.{listed_length}
 use Rattle.state.specs.declared.Object.{Object}
 use Rattle.state.specs.State.{Objects}
@@ -36,7 +36,7 @@ unfolding put_all
 put_length o p [] = refl
 put_length o p (r ∷ rs) =
     put_length (put_one o p r) (p + 8) rs
-    ∙ by-test (leb (p + 8) (length o)) (λ e. rw e (length-sets o p (bytes_of r))) (λ e. rw e)
+    ∙ by_test (leb (p + 8) (length o)) (λ e. rw e (length-sets o p (bytes_of r))) (λ e. rw e)
 
 stored_length : (o : List ℕ) (p : ℕ) (rs : List SetupRecord) (m : List ℕ) (q : ℕ) → Stored o p rs m q → length m ≡ length o
 stored_length o p rs m q s = ap length s.buffer ∙ put_length o p rs
@@ -69,13 +69,13 @@ section_more : {A : Type 0} (item : A → SetupRecord) (n : ℕ) (test : ℕ →
     → section_of item (n + 1) test value ≡ section_of item n test value ++ next_of item n test value
 unfolding listed
 section_more item n test value =
-    ap (λ (k : ℕ). section_of item k test value) (add-one n) ∙ map-append item (listed n test value) (cond (test n) (value n ∷ []) [])
+    ap (λ (k : ℕ). section_of item k test value) (add-one n) ∙ map_append item (listed n test value) (cond (test n) (value n ∷ []) [])
 
 -- a section of n numbers takes at most 8 bytes for each
 pub section_most : {A : Type 0} (item : A → SetupRecord) (n : ℕ) (test : ℕ → Bool) (value : ℕ → A) (o l : List ℕ) (p q : ℕ)
     → Stored o p (section_of item n test value) l q → q ≤ p + n * 8
 section_most item n test value o l p q a =
-    let m = map-length item (listed n test value) in
+    let m = map_length item (listed n test value) in
     let h = listed_length n test value in
     omega (arith, a.place)
 

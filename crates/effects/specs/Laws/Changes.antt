@@ -1,7 +1,7 @@
 -- The facility after a call is the one after what the call changes.
 use Rattle.std.specs.Prelude.{ℕ, ◌≡◌, eqb}
 use Rattle.std.proofs.Common.{◌∙◌, ap}
-use Rattle.labels.proofs.Laws.Decisions.{by-test}
+use Rattle.labels.proofs.Laws.Decisions.{by_test}
 use Rattle.answers.specs.Outcomes.{denies, number_of}
 use Rattle.answers.specs.declared.Outcome.{Outcome}
 use Rattle.state.specs.declared.Call.{Call}
@@ -18,7 +18,7 @@ use Rattle.effects.specs.Changes.{change_by}
 pub after_is : (f : Facility) (c : Call) → changed f (change_by (number f c) (view_of f c) c) ≡ after f c
 unfolding change_by after accepted after_refusal effect_from
 after_is f c =
-    by-test (eqb (number f c) 0) (λ h. rw h) (λ h. rw h (by-test (denies (number f c)) (λ k. rw k) (λ k. rw k)))
+    by_test (eqb (number f c) 0) (λ h. rw h) (λ h. rw h (by_test (denies (number f c)) (λ k. rw k) (λ k. rw k)))
 
 -- the facility after a call, by what it looks at and the number of its outcome
 pub enforced_facility : (f : Facility) (c : Call) (v : View) (n : ℕ) (o : Outcome) → n ≡ number_of o → o ≡ query f c → v ≡ view_of f c

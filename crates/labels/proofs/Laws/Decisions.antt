@@ -45,13 +45,13 @@ pub clash {ℓ} : {b : Bool} {A : Type ℓ} → b ≡ true → b ≡ false → A
 clash h k = absurd (true≢false (sym h ∙ k))
 
 -- to split on a test and keep the equation
-pub by-test {ℓ} : (b : Bool) {A : Type ℓ} → (b ≡ true → A) → (b ≡ false → A) → A
-by-test true f g = f refl
-by-test false f g = g refl
+pub by_test {ℓ} : (b : Bool) {A : Type ℓ} → (b ≡ true → A) → (b ≡ false → A) → A
+by_test true f g = f refl
+by_test false f g = g refl
 
 -- to split on whether two numbers are the same
-pub by-eq {ℓ} : (a b : ℕ) {A : Type ℓ} → (a ≡ b → A) → (a ≢ b → A) → A
-by-eq a b f g = by-test (eqb a b) (λ h. f (eqb-true a b h)) (λ h. g (eqb-false a b h))
+pub by_eq {ℓ} : (a b : ℕ) {A : Type ℓ} → (a ≡ b → A) → (a ≢ b → A) → A
+by_eq a b f g = by_test (eqb a b) (λ h. f (eqb-true a b h)) (λ h. g (eqb-false a b h))
 
 -- number 0 answers each question with yes
 pub ask_yes : (b : Bool) (n r : ℕ) → ask b (suc n) r ≡ 0 → b ≡ true

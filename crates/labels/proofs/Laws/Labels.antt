@@ -7,7 +7,7 @@ use Rattle.std.specs.Int.Count.{ones}
 use Rattle.labels.specs.Labels.{unset, all_categories, Label, within, leq, ◌⊑◌, same, larger, smaller, join, meet, bottom, lawful, top, given, label}
 use Rattle.labels.specs.Labels.{rank}
 use Rattle.labels.specs.LabelLaws.{LabelLaws}
-use Rattle.labels.proofs.Laws.Decisions.{and_l, and_r, and_i, by-test, clash}
+use Rattle.labels.proofs.Laws.Decisions.{and_l, and_r, and_i, by_test, clash}
 use Rattle.labels.proofs.Laws.Bits.{or_assoc, and_absorbed, or_and, within_byte, within_most, within_ones_most, within_same}
 
 -- facts of a dominance, and a dominance of facts
@@ -24,22 +24,22 @@ unfolding leq within
 dominated a b h k = and_i _ _ (le-leb _ _ h) (eq-eqb _ _ k)
 
 larger_l : (a b : ℕ) → a ≤ larger a b
-larger_l a b = by-test (leb a b) (λ h. rw h (leb-true a b h)) (λ h. rw h (omega arith))
+larger_l a b = by_test (leb a b) (λ h. rw h (leb-true a b h)) (λ h. rw h (omega arith))
 
 larger_r : (a b : ℕ) → b ≤ larger a b
-larger_r a b = by-test (leb a b) (λ h. rw h (omega arith)) (λ h. let p : b < a = leb-false a b h in rw h (omega arith))
+larger_r a b = by_test (leb a b) (λ h. rw h (omega arith)) (λ h. let p : b < a = leb-false a b h in rw h (omega arith))
 
 larger_least : (a b c : ℕ) → a ≤ c → b ≤ c → larger a b ≤ c
-larger_least a b c h k = by-test (leb a b) (λ e. rw e k) (λ e. rw e h)
+larger_least a b c h k = by_test (leb a b) (λ e. rw e k) (λ e. rw e h)
 
 smaller_l : (a b : ℕ) → smaller a b ≤ a
-smaller_l a b = by-test (leb a b) (λ h. rw h (omega arith)) (λ h. let p : b < a = leb-false a b h in rw h (omega arith))
+smaller_l a b = by_test (leb a b) (λ h. rw h (omega arith)) (λ h. let p : b < a = leb-false a b h in rw h (omega arith))
 
 smaller_r : (a b : ℕ) → smaller a b ≤ b
-smaller_r a b = by-test (leb a b) (λ h. rw h (leb-true a b h)) (λ h. rw h (omega arith))
+smaller_r a b = by_test (leb a b) (λ h. rw h (leb-true a b h)) (λ h. rw h (omega arith))
 
 smaller_greatest : (a b c : ℕ) → c ≤ a → c ≤ b → c ≤ smaller a b
-smaller_greatest a b c h k = by-test (leb a b) (λ e. rw e h) (λ e. rw e k)
+smaller_greatest a b c h k = by_test (leb a b) (λ e. rw e h) (λ e. rw e k)
 
 -- The laws.
 pub ⊑_refl : (a : Label) → a ⊑ a
@@ -141,7 +141,7 @@ unfolding rank
 rank_over a b h n =
     let p = level_of a b h in
     let q = within_ones_most a.set b.set (set_of_law a b h) in
-    by-test (leb (b.level + ones b.set) (a.level + ones a.set))
+    by_test (leb (b.level + ones b.set) (a.level + ones a.set))
     (λ t.
     let w : b.level + ones b.set ≤ a.level + ones a.set = leb-true _ _ t in
     let e : a.level ≡ b.level = omega arith in

@@ -13,7 +13,7 @@ use Rattle.rules.proofs.Sound.{Sound}
 use Rattle.rules.proofs.Passed.{passed, accepted_zero}
 use Rattle.matter.specs.declared.Ledger.{Ledger}
 use Rattle.matter.specs.Laws.LedgerIsAccount.{InRange, Sized, call_carried, sized_step, AllInRange, done, more, followed, started, sized_start}
-use Rattle.labels.proofs.Laws.Decisions.{by-test}
+use Rattle.labels.proofs.Laws.Decisions.{by_test}
 use Rattle.rules.specs.declared.Action.{Action}
 use Rattle.rules.specs.declared.Action.TheVariants.{Login, Clone, SendSignal, SetLevel, Terminate, Create, OnObject, Unknown}
 use Rattle.rules.specs.Matter.{Account, process_gains, object_gains, assign, enter, takes, gives, carry, carry_by, account, account_after, holds}
@@ -50,11 +50,11 @@ carry_next SendSignal a c = omega arith
 carry_next SetLevel a c = omega arith
 carry_next Terminate a c = omega arith
 carry_next Unknown a c = omega arith
-carry_next Create a c = by-test (in_directory c.extra) (λ e. rw e) (λ e. rw e)
+carry_next Create a c = by_test (in_directory c.extra) (λ e. rw e) (λ e. rw e)
 carry_next OnObject a c =
     let k = class_of c.request (a.kinds c.target) in
-    by-test (takes c.request k) (λ d. rw d (omega arith))
-    (λ d. by-test (gives c.request k) (λ e. rw (d, e) (omega arith)) (λ e. rw (d, e) (omega arith)))
+    by_test (takes c.request k) (λ d. rw d (omega arith))
+    (λ d. by_test (gives c.request k) (λ e. rw (d, e) (omega arith)) (λ e. rw (d, e) (omega arith)))
 
 account_next : (l : Ledger) → (account_of l).next ≡ l.next
 unfolding account_of
@@ -75,7 +75,7 @@ next_kept : (f : Facility) (l : Ledger) (c : Call) → Sized l → Sound f → l
     → (step_of l c (accepted f c)).next ≡ (after f c).entered
 unfolding step_of after
 next_kept f l c z S n =
-    by-test (accepted f c)
+    by_test (accepted f c)
     (λ h. rw h (next_carried f l c z S n h))
     (λ h. rw h (n ∙ sym (refused_entered f (owner_in f c) (number f c))))
 

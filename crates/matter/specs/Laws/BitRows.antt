@@ -8,7 +8,7 @@ use Rattle.std.proofs.Math.Seq.{set_out, get_or-set_same, get_or-set_other}
 use Rattle.std.proofs.Math.Nat.{div-eq_of_lt, mul-div-mul_right, two-pow-succ, pow-le-pow_right}
 use Rattle.matter.specs.LedgerSteps.{bit, per_word, put_members, with_object, with_process, members_in, is_member, no_members, merged_of, only_member, selves}
 use Rattle.labels.specs.Decisions.{◌or◌, at}
-use Rattle.labels.proofs.Laws.Decisions.{by-eq, by-test}
+use Rattle.labels.proofs.Laws.Decisions.{by_eq, by_test}
 use Rattle.matter.specs.declared.Members.{Members}
 use Rattle.matter.specs.declared.Ledger.{Ledger}
 use Rattle.opens.specs.Opens.{most_objects}
@@ -21,9 +21,9 @@ bit_none c = ap (λ (n : ℕ). eqb (n % 2) 1) (div-eq_of_lt (pow_pos c))
 or_bit : (x y : ℕ) → x < 2 → y < 2 → eqb (max x y) 1 ≡ (eqb x 1 or eqb y 1)
 unfolding ◌or◌
 or_bit x y h k =
-    by-eq x 0
-    (λ p. by-eq y 0 (λ q. rw (p, q)) (λ q. let e : y ≡ 1 = omega arith in rw (p, e)))
-    (λ p. let d : x ≡ 1 = omega arith in by-eq y 0 (λ q. rw (d, q)) (λ q. let e : y ≡ 1 = omega arith in rw (d, e)))
+    by_eq x 0
+    (λ p. by_eq y 0 (λ q. rw (p, q)) (λ q. let e : y ≡ 1 = omega arith in rw (p, e)))
+    (λ p. let d : x ≡ 1 = omega arith in by_eq y 0 (λ q. rw (d, q)) (λ q. let e : y ≡ 1 = omega arith in rw (d, e)))
 
 low_bit : (z m : ℕ) → m < 2 → (z * 2 + m) % 2 ≡ m
 low_bit z m h = omega arith
@@ -55,13 +55,13 @@ small n h = let b : 1 < n + n = omega arith in div-eq_of_lt b
 
 both_suc : (x c : ℕ) → eqb x c ≡ eqb (suc x) (suc c)
 both_suc x c =
-    by-eq x c
+    by_eq x c
     (λ p. eq-eqb x c p ∙ sym (eq-eqb (suc x) (suc c) (ap suc p)))
     (λ n. ne_eqb x c n ∙ sym (ne_eqb (suc x) (suc c) (omega arith)))
 
 less_same : (x c : ℕ) → per_word ≤ x → per_word ≤ c → eqb (x - per_word) (c - per_word) ≡ eqb x c
 less_same x c h k =
-    by-eq x c
+    by_eq x c
     (λ p. eq-eqb (x - per_word) (c - per_word) (ap (λ (n : ℕ). n - per_word) p) ∙ sym (eq-eqb x c p))
     (λ n. ne_eqb (x - per_word) (c - per_word) (omega arith) ∙ sym (ne_eqb x c n))
 
@@ -136,32 +136,32 @@ module _ (words : List ℕ) (d : ℕ) (s : Members) where
 pub member_none : (c : ℕ) → is_member no_members c ≡ false
 unfolding is_member no_members
 member_none c =
-    by-test (ltb c per_word) (λ b. rw (b, bit_none c))
-    (λ b. by-test (ltb c most_objects) (λ d. rw (b, d, bit_none (c - per_word))) (λ d. rw (b, d)))
+    by_test (ltb c per_word) (λ b. rw (b, bit_none c))
+    (λ b. by_test (ltb c most_objects) (λ d. rw (b, d, bit_none (c - per_word))) (λ d. rw (b, d)))
 
 pub member_merged : (s t : Members) (c : ℕ) → is_member (merged_of s t) c ≡ (is_member s c or is_member t c)
 unfolding is_member merged_of ◌or◌
 member_merged s t c =
-    by-test (ltb c per_word) (λ b. rw b (bit_or_law s.low t.low c))
-    (λ b. by-test (ltb c most_objects) (λ d. rw (b, d) (bit_or_law s.high t.high (c - per_word))) (λ d. rw (b, d)))
+    by_test (ltb c per_word) (λ b. rw b (bit_or_law s.low t.low c))
+    (λ b. by_test (ltb c most_objects) (λ d. rw (b, d) (bit_or_law s.high t.high (c - per_word))) (λ d. rw (b, d)))
 
 -- the number and the member are each in the low word, in the high word, or none
 pub member_only : (x c : ℕ) → x < most_objects → is_member (only_member x) c ≡ eqb x c
 unfolding is_member only_member
 member_only x c h =
-    by-test (ltb x per_word)
+    by_test (ltb x per_word)
     (λ a. let j = ltb-true x per_word a in
-    by-test (ltb c per_word) (λ b. rw (a, b) (bit_of_power x c))
+    by_test (ltb c per_word) (λ b. rw (a, b) (bit_of_power x c))
     (λ b. let k = ltb-false c per_word b in
     let n : x ≢ c = omega arith in
-    by-test (ltb c most_objects) (λ d. rw (a, b, d, ne_eqb x c n) (bit_none (c - per_word))) (λ d. rw (a, b, d, ne_eqb x c n))))
+    by_test (ltb c most_objects) (λ d. rw (a, b, d, ne_eqb x c n) (bit_none (c - per_word))) (λ d. rw (a, b, d, ne_eqb x c n))))
     (λ a. let j = ltb-false x per_word a in
-    by-test (ltb c per_word)
+    by_test (ltb c per_word)
     (λ b. let k = ltb-true c per_word b in
     let n : x ≢ c = omega arith in
     rw (a, lt-ltb x most_objects h, b, ne_eqb x c n) (bit_none c))
     (λ b. let k = ltb-false c per_word b in
-    by-test (ltb c most_objects)
+    by_test (ltb c most_objects)
     (λ d. rw (a, lt-ltb x most_objects h, b, d) (bit_of_power (x - per_word) (c - per_word) ∙ less_same x c j k))
     (λ d. let m = ltb-false c most_objects d in
     let n : x ≢ c = omega arith in

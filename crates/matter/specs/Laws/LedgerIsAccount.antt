@@ -14,7 +14,7 @@ use Rattle.matter.specs.LedgerSteps.{is_member, held_by, put_members, account_of
 use Rattle.matter.specs.LedgerSteps.{object_gains_of, received_of, no_members, assigned_nothing_of, copied_of, with_kind, only_member, entered_of}
 use Rattle.matter.specs.LedgerSteps.{by_class, created_of}
 use Rattle.matter.specs.LedgerSteps.{on_object_of, carried_of, step_of, selves, start_of}
-use Rattle.labels.proofs.Laws.Decisions.{by-eq, by-test}
+use Rattle.labels.proofs.Laws.Decisions.{by_eq, by_test}
 use Rattle.matter.specs.Laws.BitRows.{row_same, row_other, member_merged, member_none, length_put, member_only}
 use Rattle.labels.specs.Decisions.{at}
 use Rattle.state.specs.declared.Call.{Call}
@@ -44,7 +44,7 @@ held_put : (words : List ℕ) (d : ℕ) (s : Members) (r c : ℕ) → 2 * d + 1 
     → held_by (put_members words d s) r c ≡ put (sets_of words) d (set_of s) r c
 unfolding held_by
 held_put words d s r c h =
-    by-eq d r
+    by_eq d r
     (λ p. rw (eq-eqb d r p, ← p, row_same words d s h))
     (λ n. rw (ne_eqb d r n, row_other words d s r n))
 
@@ -53,7 +53,7 @@ sets_put words d s h = fun_ext (λ r. fun_ext (λ c. held_put words d s r c h))
 
 kinds_put : (kinds : List ℕ) (n e t : ℕ) → n < length kinds → at (set kinds n e) t ≡ put (λ i. at kinds i) n e t
 kinds_put kinds n e t h =
-    by-eq n t
+    by_eq n t
     (λ p. rw (eq-eqb n t p, ← p) (get_or-set_same kinds n e 0 h))
     (λ m. rw (ne_eqb n t m) (get_or-set_other kinds n t e 0 (λ q. m (sym q))))
 
@@ -163,13 +163,13 @@ by_class_law : (k : Class) (l : Ledger) (c : Call) → Sized l → c.process < m
     → account_of (by_class k l c) ≡ carry k (account_of l) c
 unfolding by_class carry
 by_class_law k l c z p t =
-    by-test (takes c.request k) (λ a. rw a (process_gains_law l c.process c.target z p))
-    (λ a. by-test (gives c.request k) (λ b. rw (a, b) (object_gains_law l c.process c.target z t)) (λ b. rw (a, b)))
+    by_test (takes c.request k) (λ a. rw a (process_gains_law l c.process c.target z p))
+    (λ a. by_test (gives c.request k) (λ b. rw (a, b) (object_gains_law l c.process c.target z t)) (λ b. rw (a, b)))
 
 created : (l : Ledger) (c : Call) → Sized l → Allowed Create l c → account_of (created_of l c) ≡ carry_by Create (account_of l) c
 unfolding created_of carry_by object_gains_of with_object
 created l c z h =
-    by-test (in_directory c.extra)
+    by_test (in_directory c.extra)
     (λ a.
     let g = object_gains_of l c.process c.target in
     rw a
@@ -199,7 +199,7 @@ stepped l c false z h = refl
 sized_entered : (l : Ledger) (e : ℕ) → Sized l → Sized (entered_of l e)
 unfolding entered_of
 sized_entered l e z =
-    by-test (ltb l.next most_objects)
+    by_test (ltb l.next most_objects)
     (λ a. rw a (sized_kind _ l.next e (sized_object l l.next (only_member l.next) z)))
     (λ a. rw a z)
 
@@ -207,19 +207,19 @@ sized_carried : (k : Action) (l : Ledger) (c : Call) → Sized l → Sized (carr
 unfolding assigned_nothing_of copied_of received_of created_of on_object_of by_class process_gains_of object_gains_of
 sized_carried Login l c z = sized_process l c.process no_members z
 sized_carried Clone l c z =
-    by-test (ltb c.process most_processes) (λ a. rw a (sized_process l c.target _ z)) (λ a. rw a z)
+    by_test (ltb c.process most_processes) (λ a. rw a (sized_process l c.target _ z)) (λ a. rw a z)
 sized_carried SendSignal l c z = sized_process l c.target _ z
 sized_carried SetLevel l c z = z
 sized_carried Terminate l c z = z
 sized_carried Create l c z =
-    by-test (in_directory c.extra)
+    by_test (in_directory c.extra)
     (λ a. rw a (sized_entered _ c.extra (sized_object l c.target _ z)))
     (λ a. rw a (sized_entered l c.extra z))
 sized_carried Unknown l c z = z
 sized_carried OnObject l c z =
     let k = class_of c.request (at l.kinds c.target) in
-    by-test (takes c.request k) (λ a. rw a (sized_process l c.process _ z))
-    (λ a. by-test (gives c.request k) (λ b. rw (a, b) (sized_object l c.target _ z)) (λ b. rw (a, b) z))
+    by_test (takes c.request k) (λ a. rw a (sized_process l c.process _ z))
+    (λ a. by_test (gives c.request k) (λ b. rw (a, b) (sized_object l c.target _ z)) (λ b. rw (a, b) z))
 
 pub sized_step : (l : Ledger) (c : Call) (b : Bool) → Sized l → Sized (step_of l c b)
 unfolding step_of
@@ -241,7 +241,7 @@ followed l (x ∷ xs) z (more h r) =
 -- The start.
 no_words : (n i : ℕ) → at (replicate n 0) i ≡ 0
 no_words n i =
-    by-test (ltb i n) (λ b. get_or-replicate n i 0 0 (ltb-true i n b))
+    by_test (ltb i n) (λ b. get_or-replicate n i 0 0 (ltb-true i n b))
     (λ b. let h = ltb-false i n b in get_or-eq_default (replicate n 0) 0 (rw (length-replicate {A = ℕ} n 0) h))
 
 no_row : (n r : ℕ) → members_in (replicate n 0) r ≡ no_members
@@ -266,9 +266,9 @@ selves_held (suc n) r c h =
     let e = length_selves n in
     let b : 2 * n + 1 < length (selves n) = omega arith in
     held_put (selves n) n (only_member n) r c b
-    ∙ by-eq n r
+    ∙ by_eq n r
     (λ p. rw (eq-eqb n r p, lt-ltb r (suc n) (omega arith)) (member_only n c (omega arith) ∙ ap (λ (x : ℕ). eqb x c) p))
-    (λ m. by-test (ltb r n)
+    (λ m. by_test (ltb r n)
     (λ q. let k = ltb-true r n q in rw (ne_eqb n r m, lt-ltb r (suc n) (omega arith)) (selves_held n r c (omega arith) ∙ rw q))
     (λ q. let k = ltb-false r n q in rw (ne_eqb n r m, le-ltb r (suc n) (omega arith)) (selves_held n r c (omega arith) ∙ rw q)))
 

@@ -2,7 +2,7 @@
 use Prim.Native.Nat.{ℕ}
 use mathlib.Core.Path.{◌≡◌, refl, ◌∙◌, ap}
 use lib.Dec.{eqb}
-use Rattle.labels.proofs.Laws.Decisions.{by-test}
+use Rattle.labels.proofs.Laws.Decisions.{by_test}
 use Rattle.text.specs.Laws.Stored.{as_text}
 use Rattle.names.specs.Tables.{size_in, trimmed, word_at}
 use Rattle.names.specs.Words.{word_in, no_flag, flag_words, flag_row, flag_word}
@@ -12,15 +12,15 @@ use Rattle.names.proofs.put_flag_word.Goals as goal
 in_row : (m : ℕ) → word_in no_flag flag_words (flag_row m) ≡ flag_word m
 unfolding flag_row flag_word
 in_row m =
-    by-test (eqb m 1)
+    by_test (eqb m 1)
     (λ s. rw s)
-    (λ s. by-test (eqb m 2)
+    (λ s. by_test (eqb m 2)
     (λ t. rw (s, t))
-    (λ t. by-test (eqb m 4)
+    (λ t. by_test (eqb m 4)
     (λ u. rw (s, t, u))
-    (λ u. by-test (eqb m 8)
+    (λ u. by_test (eqb m 8)
     (λ v. rw (s, t, u, v))
-    (λ v. by-test (eqb m 128) (λ w. rw (s, t, u, v, w)) (λ w. rw (s, t, u, v, w))))))
+    (λ v. by_test (eqb m 128) (λ w. rw (s, t, u, v, w)) (λ w. rw (s, t, u, v, w))))))
 
 pub returns : goal.returns
 unfolding size_in trimmed word_at

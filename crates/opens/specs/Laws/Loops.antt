@@ -3,7 +3,7 @@ use Rattle.std.specs.Prelude.{ℕ, suc, ◌+◌, zero, ◌<◌, ◌/◌, ◌%◌
 use Rattle.std.proofs.Common.{◌∙◌, ap, sym, length-set, get_or-set_other, get_or-set_same, ext_get_or, arith, add-one, eq-eqb, ne_eqb}
 use Rattle.std.proofs.lemmas.List.Edits.{sets}
 use Rattle.labels.specs.Decisions.{at}
-use Rattle.labels.proofs.Laws.Decisions.{by-eq}
+use Rattle.labels.proofs.Laws.Decisions.{by_eq}
 use Rattle.opens.specs.Laws.Opens.{length_build, at_build}
 use Rattle.opens.specs.Opens.{most_opens, build, most_objects, place, most_processes, close_process, copy_process, close_object}
 
@@ -44,7 +44,7 @@ at_puts : (l : List ℕ) (to v : ℕ → ℕ) (n j : ℕ) → j < n → to j < l
 unfolding puts
 at_puts l to v zero j h b d = absurd (omega arith)
 at_puts l to v (suc n) j h b d =
-    by-eq j n
+    by_eq j n
     (λ e. rw e (get_or-set_same (puts l to v n) (to n) (v n) 0 (rw (length_puts l to v n) (rw e at b))))
     (λ e.
     let less : j < n = omega arith in
@@ -68,7 +68,7 @@ row_filled : (l : List ℕ) (p n : ℕ) (v : ℕ → ℕ) → ((k : ℕ) → k <
     → puts l (λ k. place p k) v n ≡ build (length l) (λ i. cond (eqb (i / most_objects) p) (v (i % most_objects)) (at l i))
 row_filled l p n v all most =
     same_opens l _ _ (length_puts l (λ k. place p k) v n)
-    (λ i b. by-eq (i / most_objects) p
+    (λ i b. by_eq (i / most_objects) p
     (λ q. rw (eq-eqb (i / most_objects) p q) (inside i b q))
     (λ d. rw (ne_eqb (i / most_objects) p d) (at_puts_other l (λ k. place p k) v n i (λ k e z. d (omega arith)))))
   where
@@ -92,7 +92,7 @@ pub column_cleared : (l : List ℕ) (t n : ℕ) → t < most_objects → length 
 unfolding close_object
 column_cleared l t n h past =
     same_opens l _ _ (length_puts l (λ k. place k t) (λ k. 0) n)
-    (λ i b. by-eq (i % most_objects) t
+    (λ i b. by_eq (i % most_objects) t
     (λ q. rw (eq-eqb (i % most_objects) t q) (inside i b q))
     (λ m. rw (ne_eqb (i % most_objects) t m) (at_puts_other l (λ k. place k t) (λ k. 0) n i (λ k d z. m (omega arith)))))
   where

@@ -4,7 +4,7 @@ use Rattle.std.proofs.Common.{ap, arith, lt-ltb, le-ltb}
 use Rattle.opens.specs.Opens.{build, close_object, close_process, copy_process, most_processes, most_objects, most_opens, place, mark_place, reading}
 use Rattle.opens.specs.Opens.{writing, add_modes}
 use Rattle.labels.specs.Decisions.{at, ◌or◌}
-use Rattle.labels.proofs.Laws.Decisions.{by-test}
+use Rattle.labels.proofs.Laws.Decisions.{by_test}
 
 -- lists by a rule
 pub length_build : (n : ℕ) (g : ℕ → ℕ) → length (build n g) ≡ n
@@ -39,7 +39,7 @@ no_object_place p t h = rw (le-ltb t most_objects h)
 
 pub no_process_place : (p t : ℕ) → most_processes ≤ p → most_opens ≤ mark_place p t
 unfolding mark_place
-no_process_place p t h = by-test (ltb t most_objects) (λ e. rw e (omega arith)) (λ e. rw e (omega arith))
+no_process_place p t h = by_test (ltb t most_objects) (λ e. rw e (omega arith)) (λ e. rw e (omega arith))
 
 -- the two marks of an open
 read_bit : (a b : Bool) → reading (cond a 1 0 + cond b 2 0) ≡ a

@@ -1,4 +1,4 @@
--- The result is `inRange (action_of c.request) c`.
+-- The result is `in_range (action_of c.request) c`.
 use Rattle.labels.specs.Decisions.{◌and◌}
 use Rattle.rules.specs.Questions.{in_range}
 use Rattle.questions.proofs.in_range.Goals as goal

@@ -6,7 +6,7 @@ use borrow.Author.Tests.{le-leb, lt-leb, ne_eqb, eqb-true}
 use Rattle.rules.specs.Requests.{last_request, action_of, is_login, is_clone, is_send_signal}
 use Rattle.rules.specs.declared.Action.TheVariants.{OnObject, Unknown, Login, Clone, SendSignal, SetLevel, Terminate, Create}
 use Rattle.rules.specs.declared.Action.{Action}
-use Rattle.labels.proofs.Laws.Decisions.{by-test}
+use Rattle.labels.proofs.Laws.Decisions.{by_test}
 
 -- a number from 21 on that is not 21
 past_last : (r : ℕ) → last_request ≤ r → r ≢ last_request → last_request < r
@@ -37,13 +37,13 @@ by_number : (q : Action → Bool) (n : ℕ) → eqb 2 n ≡ q Clone → eqb 4 n 
     → ((r : ℕ) → eqb r 2 ≡ false → eqb r 16 ≡ false → eqb r 21 ≡ false → eqb r n ≡ false) → (r : ℕ) → eqb r n ≡ q (action_of r)
 unfolding action_of
 by_number q n h2 h4 h16 h17 h18 h21 ho hu out r =
-    by-test (eqb r 2) (λ a. rw (a, eqb-true r 2 a) h2) (λ a.
-    by-test (eqb r 4) (λ b. rw (a, b, eqb-true r 4 b) h4) (λ b.
-    by-test (eqb r 16) (λ c. rw (a, b, c, eqb-true r 16 c) h16) (λ c.
-    by-test (eqb r 17) (λ d. rw (a, b, c, d, eqb-true r 17 d) h17) (λ d.
-    by-test (eqb r 18) (λ e. rw (a, b, c, d, e, eqb-true r 18 e) h18) (λ e.
-    by-test (eqb r 21) (λ f. rw (a, b, c, d, e, f, eqb-true r 21 f) h21) (λ f.
-    by-test (leb r last_request) (λ g. rw (a, b, c, d, e, f, g, out r a c f) ho) (λ g. rw (a, b, c, d, e, f, g, out r a c f) hu)))))))
+    by_test (eqb r 2) (λ a. rw (a, eqb-true r 2 a) h2) (λ a.
+    by_test (eqb r 4) (λ b. rw (a, b, eqb-true r 4 b) h4) (λ b.
+    by_test (eqb r 16) (λ c. rw (a, b, c, eqb-true r 16 c) h16) (λ c.
+    by_test (eqb r 17) (λ d. rw (a, b, c, d, eqb-true r 17 d) h17) (λ d.
+    by_test (eqb r 18) (λ e. rw (a, b, c, d, e, eqb-true r 18 e) h18) (λ e.
+    by_test (eqb r 21) (λ f. rw (a, b, c, d, e, f, eqb-true r 21 f) h21) (λ f.
+    by_test (leb r last_request) (λ g. rw (a, b, c, d, e, f, g, out r a c f) ho) (λ g. rw (a, b, c, d, e, f, g, out r a c f) hu)))))))
 
 pub login_is : (r : ℕ) → eqb r 21 ≡ is_login (action_of r)
 login_is r = by_number is_login 21 refl refl refl refl refl refl refl refl (λ s a c f. f) r

@@ -6,7 +6,7 @@ use Rattle.std.proofs.Math.Path.{sym}
 use Rattle.std.proofs.Math.Dec.{eqb}
 use Rattle.answers.specs.declared.SetupOutcome.TheVariants.{Accepted}
 use Rattle.labels.specs.Decisions.{ask}
-use Rattle.labels.proofs.Laws.Decisions.{ask_yes, by-eq, by-test}
+use Rattle.labels.proofs.Laws.Decisions.{ask_yes, by_eq, by_test}
 use Rattle.rules.specs.declared.SetupRecord.{SetupRecord}
 use Rattle.rules.specs.Kinds.{kind_of, object_record_kind, place_of, switches_record_kind, user_record_kind}
 use Rattle.rules.specs.Setup.{enter_all, enter_record, first_record, records_of, refused_setup}
@@ -20,10 +20,10 @@ use Rattle.setup.specs.Progress.{Progress, fits_after, none_before, number_after
 first_kind : (k : ℕ) → (kind_of k).place ≡ 1 → k ≡ switches_record_kind
 unfolding kind_of
 first_kind k e =
-    by-eq k switches_record_kind (λ h. h)
-    (λ a. by-eq k user_record_kind
+    by_eq k switches_record_kind (λ h. h)
+    (λ a. by_eq k user_record_kind
     (λ h. let q : (kind_of k).place ≡ 2 = rw (ne_eqb k switches_record_kind a, eq-eqb k user_record_kind h) in absurd (omega arith))
-    (λ b. by-eq k object_record_kind
+    (λ b. by_eq k object_record_kind
     (λ h.
     let q : (kind_of k).place ≡ 3 = rw (ne_eqb k switches_record_kind a, ne_eqb k user_record_kind b, eq-eqb k object_record_kind h) in
     absurd (omega arith))
@@ -35,7 +35,7 @@ module _ (p : Progress) (f g : Facility) (r : SetupRecord) (z : p.kind ≡ 0) wh
   first_number : number_by p f r ≡ number_by p g r
   unfolding number_after parent_fits_in ask
   first_number =
-      by-test (eqb (place_of r) 1)
+      by_test (eqb (place_of r) 1)
       (λ t. rw (first_kind r.kind (eqb-true _ 1 t)))
       (λ t. rw (eq-eqb p.kind 0 z, t))
 
@@ -73,12 +73,12 @@ module _ (s : List ℕ) (n k : ℕ) (f : Facility) (p : Progress) (r : SetupReco
 
   same_number : number_by p f r ≡ number_by p (built_at k f) r
   same_number =
-      by-eq k 0 (λ e. first_number p f (built_at k f) r (kept_first e))
+      by_eq k 0 (λ e. first_number p f (built_at k f) r (kept_first e))
       (λ d. ap (λ (x : Facility). number_by p x r) (sym (later k f d)))
 
   same_entered : number_by p f r ≡ 0 → enter_record (built_at k f) r ≡ enter_record f r
   same_entered z =
-      by-eq k 0 (λ e. sym (first_enters p f (built_at k f) r (kept_first e) z)) (λ d. ap (λ (x : Facility). enter_record x r) (later k f d))
+      by_eq k 0 (λ e. sym (first_enters p f (built_at k f) r (kept_first e) z)) (λ d. ap (λ (x : Facility). enter_record x r) (later k f d))
 
   pub from_goes_on : number_by p f r ≡ 0 → From s n (k + 1) (enter_record f r) (progress_after p r.kind)
   from_goes_on z =

@@ -7,7 +7,7 @@ use Rattle.rules.proofs.Fresh.{Told}
 use Rattle.state.specs.declared.Facility.{Facility}
 use Rattle.state.specs.State.{object_in, one_more}
 use Rattle.setup.specs.declared.Progress.{Progress}
-use Rattle.labels.proofs.Laws.Decisions.{by-test, by-eq}
+use Rattle.labels.proofs.Laws.Decisions.{by_test, by_eq}
 use Rattle.setup.specs.Progress.{count_after, fits_after, number_after, parent_fits_in, progress_after}
 use Rattle.rules.proofs.Past.{InOrder, order_none, count_same, order_more}
 use Rattle.labels.specs.Decisions.{◌and◌, ◌or◌, ask, at}
@@ -36,9 +36,9 @@ count_none k = refl
 
 count_is : (p : Progress) (past : List SetupRecord) (r : SetupRecord) → Kept p past → fits past r ≡ true → count_after p r.kind ≡ count_of r.kind past
 count_is p [] r (none a b) h =
-    by-test (eqb p.kind r.kind) (λ e. rw e (b ∙ count_none r.kind)) (λ e. rw e (count_none r.kind))
+    by_test (eqb p.kind r.kind) (λ e. rw e (b ∙ count_none r.kind)) (λ e. rw e (count_none r.kind))
 count_is p (q ∷ past) r (some x xs a b o) h =
-    by-eq q.kind r.kind
+    by_eq q.kind r.kind
     (λ e. rw (a, eq-eqb q.kind r.kind e) (b ∙ ap (λ (k : ℕ). count_of k (q ∷ past)) e))
     (λ d. rw (a, ne_eqb q.kind r.kind d) (sym (order_none q past r h o d)))
 
@@ -50,12 +50,12 @@ ask_same a false n x y e h = rw e
 -- a record without a parent fits, and one with a parent by its test
 pub none_fits : (kinds : List ℕ) (entered : ℕ) (r : SetupRecord) → r.six ≡ 0 → true ≡ parent_fits_in kinds entered r
 unfolding parent_fits_in ◌or◌
-none_fits kinds entered r z = by-test (eqb r.kind 2) (λ e. rw (e, eq-eqb r.six 0 z)) (λ e. rw e)
+none_fits kinds entered r z = by_test (eqb r.kind 2) (λ e. rw (e, eq-eqb r.six 0 z)) (λ e. rw e)
 
 pub parent_fits_law : (kinds : List ℕ) (entered : ℕ) (r : SetupRecord) → r.six ≢ 0
     → (not (eqb r.kind 2) or (ltb (r.six - 1) entered and eqb (at kinds (r.six - 1)) 1)) ≡ parent_fits_in kinds entered r
 unfolding parent_fits_in ◌or◌
-parent_fits_law kinds entered r z = by-test (eqb r.kind 2) (λ e. rw (e, ne_eqb r.six 0 z)) (λ e. rw e)
+parent_fits_law kinds entered r z = by_test (eqb r.kind 2) (λ e. rw (e, ne_eqb r.six 0 z)) (λ e. rw e)
 
 -- 19 is answered by the facility as by the records it was read from
 pub parent_fit_same : (past : List SetupRecord) (f : Facility) (r : SetupRecord) → Told past f → parent_fits_in f.kinds f.entered r ≡ parent_fits past r

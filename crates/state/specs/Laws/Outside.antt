@@ -6,7 +6,7 @@ use mathlib.Core.List.{List}
 use Rattle.std.proofs.Math.ListN.{get_or-eq_default}
 use Rattle.std.proofs.Math.Seq.{get_or-set_same, get_or-set_other, set_out}
 use Rattle.labels.specs.Decisions.{at}
-use Rattle.labels.proofs.Laws.Decisions.{by-test, by-eq}
+use Rattle.labels.proofs.Laws.Decisions.{by_test, by_eq}
 use Rattle.state.specs.Shaped.{Shaped}
 use Rattle.opens.specs.Laws.Opens.{mark_place_law, no_object_place, no_process_place}
 use Rattle.state.specs.Laws.ReadBack.{process_out, opens_out, deleted_out, opens_kept, counted_none}
@@ -53,9 +53,9 @@ module _ (f : Facility) (s : Shaped f) where
   other_marks : (p t v q u : ℕ) → (q ≡ p → u ≢ t) → opens_of (put_marks f p t v) q u ≡ opens_of f q u
   unfolding opens_of put_opens
   other_marks p t v q u n =
-      by-eq (mark_place q u) (mark_place p t)
-      (λ e. by-test (ltb u most_objects)
-      (λ a. by-test (ltb t most_objects) (λ b. both (ltb-true u most_objects a) (ltb-true t most_objects b) e)
+      by_eq (mark_place q u) (mark_place p t)
+      (λ e. by_test (ltb u most_objects)
+      (λ a. by_test (ltb t most_objects) (λ b. both (ltb-true u most_objects a) (ltb-true t most_objects b) e)
       (λ b. past (object_place p t (ltb-false t most_objects b))))
       (λ a. let h = object_place q u (ltb-false u most_objects a) in past (omega arith)))
       (λ e. get_or-set_other f.opens (mark_place p t) (mark_place q u) v 0 e)

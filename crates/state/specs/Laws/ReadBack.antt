@@ -4,7 +4,7 @@ use Rattle.std.proofs.Common.{ap, ◌∙◌, sym, length-set, get_or-set_same, g
 use Rattle.std.proofs.Math.Seq.{set_out}
 use Rattle.std.proofs.lemmas.List.{set-get_or}
 use Rattle.labels.specs.Decisions.{at}
-use Rattle.labels.proofs.Laws.Decisions.{by-test}
+use Rattle.labels.proofs.Laws.Decisions.{by_test}
 use Rattle.state.specs.State.{Facility, Process, process_in, process_of, put_process, User, most_users, user_in, user_of, put_user, Object, object_in}
 use Rattle.state.specs.State.{object_of, put_object, add_user, add_object, put_opens, drop_object, put_refusals, opens_of, processes_from, users_in, objects_in}
 use Rattle.state.specs.State.{processes_in, with, objects_from, put_marks, deleted, counted, refusals_of, most_refusals, one_more}
@@ -247,7 +247,7 @@ opens_out f n v e h =
 -- a counter with a stop: it stays what its count is, up to the stop
 pub one_more_law : (most n d : ℕ) → n ≡ min d most → one_more most n ≡ min (1 + d) most
 one_more_law most n d h =
-    by-test (ltb n most)
+    by_test (ltb n most)
     (λ e. rw e (let b : n < most = ltb-true n most e in omega arith))
     (λ e. rw e (let b : most ≤ n = ltb-false n most e in omega arith))
 

@@ -4,7 +4,7 @@ use Rattle.std.proofs.Common.{ap, ◌∙◌, subst, length-append, arith, lt-ltb
 use Rattle.std.proofs.Math.Numerals.{unary_clauses}
 use Rattle.io.specs.Digits.{hex_digit_ascii, last_digits, IsDigitCount}
 use Rattle.rules.specs.Lines.{decimal_in, decimal, blank, field}
-use Rattle.labels.proofs.Laws.Decisions.{by-test}
+use Rattle.labels.proofs.Laws.Decisions.{by_test}
 
 power : (k : ℕ) → 10 ^ suc k ≡ 10 * 10 ^ k
 power k = simp unary_clauses (omega arith)
@@ -52,7 +52,7 @@ digits_most zero (suc most) n h =
     let b : n < 10 = omega arith in
     rw (lt-ltb n 10 b, decimal_in, length) (omega arith)
 digits_most (suc k) (suc most) n h =
-    by-test (ltb n 10)
+    by_test (ltb n 10)
     (λ t. rw (t, decimal_in, length) (omega arith))
     (λ t.
     let e = power (suc k) in

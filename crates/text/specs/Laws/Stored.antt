@@ -4,7 +4,7 @@ use Rattle.std.proofs.Common.{◌∙◌, ap, sym, subst, length-append, drop-con
 use Rattle.std.proofs.lemmas.List.Edits.{sets}
 use Rattle.std.proofs.Math.Seq.{set_out, length-sets, drop-length}
 use Rattle.opens.specs.Laws.Loops.{sets_append}
-use Rattle.labels.proofs.Laws.Decisions.{by-test}
+use Rattle.labels.proofs.Laws.Decisions.{by_test}
 use Rattle.text.specs.Stored.{Stored}
 use Rattle.io.specs.Counts.{IsPrefixLen}
 
@@ -18,7 +18,7 @@ sets_out o i (x ∷ xs) h =
 cut_append : (o : List ℕ) (i : ℕ) (xs ys : List ℕ) → sets (sets o i xs) (min (i + length xs) (length o)) ys ≡ sets o i (xs ++ ys)
 cut_append o i xs ys =
     let n = length-sets o i xs in
-    by-test (leb (i + length xs) (length o))
+    by_test (leb (i + length xs) (length o))
     (λ t.
     let h = leb-true (i + length xs) (length o) t in
     let e : min (i + length xs) (length o) ≡ i + length xs = omega arith in
@@ -56,7 +56,7 @@ pub store_done : (o l xs : List ℕ) (p j : ℕ) → p < length o → j ≡ min 
     → Stored o p xs l (p + j)
 store_done o l xs p j b h n e =
     let q : p + j ≡ min (p + length xs) (length o) = omega arith in
-    by-test (leb (length xs) j)
+    by_test (leb (length xs) j)
     (λ t.
     let d = leb-true (length xs) j t in
     let k : j ≡ length xs = omega arith in
