@@ -12,7 +12,8 @@ use Rattle.state.specs.State.{users_from, objects_in, processes_in, with, put_us
 use Rattle.state.specs.State.{refusals_of, counted}
 use Rattle.in_place.specs.Layout.{field_of, facility_of, facility_at}
 use Rattle.in_place.specs.Layout.{size, offset, the_opens, whole_size, the_lives, the_categories, the_datatypes, the_kinds, the_levels}
-use Rattle.in_place.specs.Layout.{the_entered, the_refusals, the_flags, the_parents, the_sets, the_users, the_clearances, the_roles, the_trusts, the_clearancesets}
+use Rattle.in_place.specs.Layout.{the_entered, the_refusals, the_flags, the_parents, the_sets, the_users}
+use Rattle.in_place.specs.Layout.{the_clearances, the_roles, the_trusts, the_clearancesets}
 use Rattle.in_place.specs.Stores.{store_field, store_in, Becomes, store_user, store_process, store_object, padding_in}
 use Rattle.state.specs.declared.Facility.{Facility}
 use Rattle.in_place.proofs.Stored.{stored}
@@ -143,7 +144,8 @@ full_is s o n e b =
 
 -- the counters
 pub refusals_put : (s m : List ℕ) (u a b c d n : ℕ) → length s ≡ whole_size → u < most_users → field_of m ≡ store_field
-    (store_field (store_field (store_field (field_of s) the_refusals (4 * u) a) the_refusals (4 * u + 1) b) the_refusals (4 * u + 2) c) the_refusals (4 * u + 3) d
+    (store_field (store_field (store_field (field_of s) the_refusals (4 * u) a) the_refusals (4 * u + 1) b) the_refusals (4 * u + 2) c)
+    the_refusals (4 * u + 3) d
     → a + 256 * b + 65536 * c + 16777216 * d ≡ n → facility_at m ≡ put_refusals (facility_at s) (set (facility_at s).refusals u n)
 unfolding facility_at put_refusals
 refusals_put s m u a b c d n l v e h =

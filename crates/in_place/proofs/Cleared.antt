@@ -134,7 +134,8 @@ fields_cleared s m g a b e h l z =
 
 -- all but the paddings cleared, and the switches stored
 pub blank_is : (s m : List ℕ) (w : Switches)
-    → field_of m ≡ store_field (store_field (store_field (store_field (clear_fields (clear_fields (field_of s) the_mac the_padding) the_refusals the_last_padding)
+    → field_of m ≡ store_field (store_field (store_field (store_field
+    (clear_fields (clear_fields (field_of s) the_mac the_padding) the_refusals the_last_padding)
     the_mac 0 w.mac) the_fc 0 w.fc) the_sim 0 w.sim) the_ff 0 w.ff
     → Becomes s m (blank w)
 unfolding facility_at blank ◌and◌ build

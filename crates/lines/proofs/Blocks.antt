@@ -30,7 +30,8 @@ use Rattle.labels.proofs.Laws.Decisions.{by_eq}
 -- What is left when the calls before byte i are printed: their lines, stored at `place`, make the whole.
 pub record Left (o : List ℕ) (first : ℕ) (f₀ : Facility) (calls : List ℕ) (out : List ℕ) (place index : ℕ) (f : Facility) (i : ℕ) : Type 0 where
   pub stored : sets out place (call_lines index f (calls_of (drop i calls))) ≡ sets o 0 (call_lines first f₀ (calls_of calls))
-  pub reached : min (place + length (call_lines index f (calls_of (drop i calls)))) (length o) ≡ min (0 + length (call_lines first f₀ (calls_of calls))) (length o)
+  pub reached : min (place + length (call_lines index f (calls_of (drop i calls)))) (length o)
+      ≡ min (0 + length (call_lines first f₀ (calls_of calls))) (length o)
   pub within : place ≤ length o
   pub long : length out ≡ length o
   pub facility : run f (calls_of (drop i calls)) ≡ run f₀ (calls_of calls)
@@ -42,7 +43,8 @@ left_begins o first f calls =
     record { stored = refl; reached = refl; within = omega arith; long = refl; facility = refl; most = omega arith; whole = refl }
 
 lines_more : (index : ℕ) (f : Facility) (l : List ℕ) (i : ℕ) → i + 4 ≤ length l
-    → call_lines index f (calls_of (drop i l)) ≡ call_line index f (call_from l i) ++ call_lines (index + 1) (after f (call_from l i)) (calls_of (drop (i + 4) l))
+    → call_lines index f (calls_of (drop i l)) ≡ call_line index f (call_from l i)
+    ++ call_lines (index + 1) (after f (call_from l i)) (calls_of (drop (i + 4) l))
 unfolding call_lines
 lines_more index f l i h = ap (call_lines index f) (calls_more l i h)
 
@@ -180,7 +182,8 @@ whole_by_blocks i f a b h =
     let n = length-append a b in
     let m : length (a ++ b) % 4 ≡ length b % 4 = omega arith in
     let s = ap (λ (k : ℕ). cond (eqb k 0) [] (ascii "short\n")) m in
-    let t : call_lines i f (calls_of a) ++ short_line a ≡ call_lines i f (calls_of a) = ap (λ (x : List ℕ). call_lines i f (calls_of a) ++ x) (sym (not_short a h))
+    let t : call_lines i f (calls_of a) ++ short_line a ≡ call_lines i f (calls_of a)
+    = ap (λ (x : List ℕ). call_lines i f (calls_of a) ++ x) (sym (not_short a h))
     ∙ append-nil (call_lines i f (calls_of a)) in
     let first = call_lines i f (calls_of a) in
     let rest = call_lines (i + length a / 4) (run f (calls_of a)) (calls_of b) in

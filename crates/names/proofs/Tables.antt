@@ -38,7 +38,8 @@ row_within n k last width e = mul-le-mul_right width (omega arith)
 
 -- a part of a table, as the code takes it, is the row's word
 pub word_at_law : (table : List ℕ) (width k j w n : ℕ) → k ≡ j → w ≡ width
-    → n ≡ size_in (take w (drop (k * width) table)) (length (take w (drop (k * width) table))) → take n (take w (drop (k * width) table)) ≡ word_at table width j
+    → n ≡ size_in (take w (drop (k * width) table)) (length (take w (drop (k * width) table)))
+    → take n (take w (drop (k * width) table)) ≡ word_at table width j
 unfolding trimmed word_at
 word_at_law table width k j w n i e h =
     ap (λ (b : ℕ). take b (take w (drop (k * width) table))) h

@@ -10,7 +10,8 @@ use Rattle.state.specs.declared.Call.{Call}
 use Rattle.state.specs.declared.Facility.{Facility}
 use Rattle.state.specs.declared.Process.{Process}
 use Rattle.state.specs.State.{fresh_process, process_of, user_of, put_marks, with_levels}
-use Rattle.reasons.specs.Reasons.{MacFailed, unless, read_failed, write_failed, set_failed, class_failed, object_failed, signal_failed, alone_failed, mac_failed}
+use Rattle.reasons.specs.Reasons.{MacFailed, unless, read_failed, write_failed, set_failed, class_failed}
+use Rattle.reasons.specs.Reasons.{object_failed, signal_failed, alone_failed, mac_failed}
 use Rattle.reasons.specs.Reasons.{category_unset, category_failed, data_type_failed, flag_failed, failed_in, failed_by, failed_of}
 
 -- All four modules on. User 0 has clearance 2 and the role general, user 1 clearance 2 and is security officer, user 2 is trusted. Files 0 to 3 of levels
@@ -212,7 +213,8 @@ held_or_not = refl
 
 -- a trusted owner's signal is not held to the receiver's label
 pub trusted_signal :
-    map (λ u. bit (signal_failed (fresh_process 0) (user_of (fresh (rooms 1 1)) u) (process_of (run (fresh (rooms 1 1)) (login ∷ call 17 0 0 2 ∷ [])) 0)).receiver)
+    map (λ u. bit (signal_failed (fresh_process 0) (user_of (fresh (rooms 1 1)) u)
+    (process_of (run (fresh (rooms 1 1)) (login ∷ call 17 0 0 2 ∷ [])) 0)).receiver)
     (0 ∷ 2 ∷ []) ≡ 1 ∷ 0 ∷ []
 unfolding reasons_computed
 trusted_signal = refl

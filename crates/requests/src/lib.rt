@@ -4,7 +4,8 @@
 ghost use Rattle.std.specs.Prelude.{◌<◌, ◌≤◌, true, ◌≡◌};
 ghost use Rattle.requests.specs.ClassCodes.{class_named, word_right};
 ghost use Rattle.requests.specs.Request.{request_of};
-ghost use Rattle.rules.specs.Requests.{class_code, is_on_object, alters, class_of, in_directory, is_absent, is_create, is_no_condition, needs_object, open_change};
+ghost use Rattle.rules.specs.Requests.{class_code, is_on_object, alters, class_of, in_directory, is_absent};
+ghost use Rattle.rules.specs.Requests.{is_create, is_no_condition, needs_object, open_change};
 ghost use Rattle.rules.specs.Requests.{action_of, is_clone, action_code, is_login, is_send_signal, is_set_level, last_kind, last_request};
 
 use opens::OpenChange;

@@ -8,7 +8,8 @@ use Rattle.labels.specs.Decisions.{on}
 use Rattle.labels.proofs.Laws.Decisions.{or_cases, by_test, by_eq}
 use Rattle.state.specs.Laws.ReadBack.{object_new, object_old}
 use Rattle.opens.specs.Opens.{most_processes, most_objects, most_opens, reading, writing}
-use Rattle.state.specs.State.{object_in, process_of, object_of, runs, trusted_user, label_of, opens_of, put_process, put_opens, put_object, drop_object, put_refusals}
+use Rattle.state.specs.State.{object_in, process_of, object_of, runs, trusted_user, label_of, opens_of, put_process}
+use Rattle.state.specs.State.{put_opens, put_object, drop_object, put_refusals}
 use Rattle.state.specs.State.{counted}
 use Rattle.labels.specs.Labels.{Label, given, ◌⊑◌}
 use Rattle.labels.proofs.Laws.Labels.{⊑_trans}

@@ -11,7 +11,8 @@ use Rattle.state.specs.State.{opens_of, put_process, put_opens, put_object, add_
 use Rattle.state.specs.declared.Change.TheVariants.{CountRefusal}
 use Rattle.rules.specs.Requests.{Action, Login, Clone, SendSignal, SetLevel, Terminate, Create, OnObject, Unknown, OpenChange, Keep, Add, Close}
 use Rattle.rules.specs.Requests.{CloseAll, action_of, class_of, needs_object}
-use Rattle.rules.specs.Modules.{View, view_of, mac_object, mac_signal, mac_rule, fc_rule, sim_rule, ff_rule, mac_answer, fc_answer, sim_answer, ff_answer, moved}
+use Rattle.rules.specs.Modules.{View, view_of, mac_object, mac_signal, mac_rule, fc_rule, sim_rule, ff_rule}
+use Rattle.rules.specs.Modules.{mac_answer, fc_answer, sim_answer, ff_answer, moved}
 use Rattle.rules.specs.Modules.{levelled, signalled}
 use Rattle.rules.specs.Questions.{open_for, room_for, number_by, number}
 use Rattle.rules.specs.Effects.{change_of, effect_from}

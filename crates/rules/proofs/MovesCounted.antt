@@ -164,7 +164,8 @@ module _ (f : Facility) (c : Call) (xs : List Step) where
   unfolding moves_of
   moves_cloned a = rw (a.0, a.1)
 
-  moves_else : (q : ℕ) → is_start (last f c) q ≡ false → is_cloning (last f c) q ≡ false → is_move (last f c) q ≡ false → moves_of (last f c ∷ xs) q ≡ moves_of xs q
+  moves_else : (q : ℕ) → is_start (last f c) q ≡ false → is_cloning (last f c) q ≡ false → is_move (last f c) q ≡ false
+      → moves_of (last f c ∷ xs) q ≡ moves_of xs q
   unfolding moves_of
   moves_else q a b d = rw (a, b, d) (omega arith)
 

@@ -10,7 +10,8 @@ use Rattle.labels.proofs.Laws.Decisions.{and_l, and_r, or_cases, clash, by_test,
 use Rattle.state.specs.Laws.ReadBack.{user_new, user_old, object_new, object_old, add_object_law}
 use Rattle.opens.specs.Laws.Loops.{length_object_closed, length_process_closed, length_process_copied}
 use Rattle.answers.specs.Outcomes.{denies}
-use Rattle.state.specs.State.{most_users, object_in, switches_of, process_of, object_of, user_of, live, put_process, put_opens, put_user, put_object, drop_object}
+use Rattle.state.specs.State.{most_users, object_in, switches_of, process_of, object_of, user_of, live, put_process}
+use Rattle.state.specs.State.{put_opens, put_user, put_object, drop_object}
 use Rattle.state.specs.State.{put_refusals, counted, fresh_process, no_process, open_by}
 use Rattle.opens.specs.Opens.{most_processes, most_objects, most_opens}
 use Rattle.labels.specs.Labels.{all_categories, Label, ◌⊑◌, lawful, given}

@@ -9,7 +9,8 @@ use Rattle.labels.specs.Decisions.{at, on}
 use Rattle.labels.proofs.Laws.Decisions.{clash, by_test, by_eq}
 use Rattle.state.specs.Shaped.{Shaped}
 use Rattle.state.specs.Laws.ReadBack.{object_old, shaped_process, shaped_opens, shaped_user, shaped_object, shaped_drop, shaped_counted}
-use Rattle.state.specs.State.{most_users, process_in, object_in, process_of, live, opens_of, put_process, put_opens, put_user, put_object, drop_object, put_refusals}
+use Rattle.state.specs.State.{most_users, process_in, object_in, process_of, live, opens_of, put_process, put_opens}
+use Rattle.state.specs.State.{put_user, put_object, drop_object, put_refusals}
 use Rattle.state.specs.State.{no_process, blank, counted}
 use Rattle.opens.specs.Opens.{most_processes, most_objects, most_opens, mark_place}
 use Rattle.labels.specs.Labels.{label, bottom}

@@ -12,7 +12,8 @@ use Rattle.state.specs.Laws.ReadBack.{process_same, shaped_process, shaped_opens
 use Rattle.opens.specs.Laws.Opens.{reading_add, writing_add}
 use Rattle.answers.specs.Outcomes.{answers_from}
 use Rattle.opens.specs.Opens.{most_processes, most_objects, most_opens, reading, writing, add_modes}
-use Rattle.state.specs.State.{switches_of, process_of, object_of, user_of, live, trusted_user, label_of, clearance_of, opens_of, put_process, put_opens, open_by}
+use Rattle.state.specs.State.{switches_of, process_of, object_of, user_of, live, trusted_user, label_of, clearance_of}
+use Rattle.state.specs.State.{opens_of, put_process, put_opens, open_by}
 use Rattle.labels.specs.Labels.{Label, given}
 use Rattle.answers.specs.Answers.{passes}
 use Rattle.answers.proofs.Laws.Answers.{combine_not_cared}

@@ -4,7 +4,8 @@ use Rattle.rules.specs.Types.{Answer, Answers, Call, Facility}
 use Rattle.std.specs.Int.Count.{ones}
 use Rattle.labels.specs.Decisions.{◌and◌, ◌or◌, ask, at}
 use Rattle.answers.specs.Outcomes.{denies, answers_from, outcome_of, number_of, answers_of}
-use Rattle.state.specs.State.{process_in, object_in, user_in, opens_of, fresh_process, no_process, blank, put_process, put_opens, put_user, put_object, add_user}
+use Rattle.state.specs.State.{process_in, object_in, user_in, opens_of, fresh_process, no_process, blank, put_process}
+use Rattle.state.specs.State.{put_opens, put_user, put_object, add_user}
 use Rattle.state.specs.State.{add_object, drop_object, put_refusals, counted, open_by, refusals_of}
 use Rattle.opens.specs.Opens.{mark_place, reading, writing, add_modes}
 use Rattle.labels.specs.Labels.{Label, label, within, leq, same, join, meet, bottom, top, given, rank}

@@ -1,6 +1,7 @@
 -- Demands 1 and 2, and Tickets 1, 2, 4 and 5, as statements over the definitions. Each is proved in the module of proofs/ that its comment names.
 use Rattle.answers.specs.declared.Outcome.TheVariants.{Refused}
-use Rattle.std.specs.Prelude.{ℕ, zero, suc, ◌+◌, ◌-◌, ◌≤◌, ◌<◌, min, ◌≡◌, ◌≢◌, Bool, true, false, not, cond, List, [], ◌∷◌, map, leb, ltb, eqb, length, set, take, drop}
+use Rattle.std.specs.Prelude.{ℕ, zero, suc, ◌+◌, ◌-◌, ◌≤◌, ◌<◌, min, ◌≡◌, ◌≢◌, Bool, true, false, not, cond, List, []}
+use Rattle.std.specs.Prelude.{◌∷◌, map, leb, ltb, eqb, length, set, take, drop}
 use Rattle.std.specs.Int.Bits.{bit_or}
 use Rattle.rules.specs.Types.{Outcome, Call, Object, Facility}
 use Rattle.labels.specs.Decisions.{◌and◌, ◌or◌, asked, at, on}

@@ -161,7 +161,8 @@ lines_joined i f a b h =
 
 -- the text of a read that did not fail, and the facility after it, where the indices fit
 block_is : (done : ℕ) (f : Facility) (calls : List ℕ) → done + 1 < 9223372036854775808
-    → (block_text (done + 1) f calls ≡ call_lines (done + 1) f (calls_of calls) ++ short_line calls) × (facility_after (done + 1) f calls ≡ run f (calls_of calls))
+    → (block_text (done + 1) f calls ≡ call_lines (done + 1) f (calls_of calls) ++ short_line calls)
+    × (facility_after (done + 1) f calls ≡ run f (calls_of calls))
 unfolding lines_of facility_after
 block_is done f calls h = let t = lt-ltb (done + 1) 9223372036854775808 h in (rw t, rw t)
 
@@ -224,7 +225,8 @@ pub whole_output : WholeOutput
 whole_output =
     record {
       ended = λ setup rs i s m g o h. let f = (read_setup setup).facility in let all = all_brought nothing_kept rs in
-          all_texts f rs i s m h ∙ ap (λ (x : Bool). call_lines 1 f (calls_of all) ++ cond x [] (short_line all)) g ∙ accepted (read_setup setup).outcome f all o;
+          all_texts f rs i s m h ∙ ap (λ (x : Bool). call_lines 1 f (calls_of all) ++ cond x [] (short_line all)) g
+          ∙ accepted (read_setup setup).outcome f all o;
       failed = λ f rs i s g h. let all = all_brought nothing_kept rs in
           all_texts f rs i s (failed_last s g) h ∙ ap (λ (x : Bool). call_lines 1 f (calls_of all) ++ cond x [] (short_line all)) g
           ∙ append-nil (call_lines 1 f (calls_of all));

@@ -48,7 +48,8 @@ Leaves o p xs l q ys = (m : List ℕ) (r : ℕ) → Stored o p xs m r → Stored
 module _ (l ys ns xs : List ℕ) (q : ℕ) where
   -- one byte more: the number n, said by byte j, and k signs passed
   pub fill_goes_on : (o m : List ℕ) (p r i j n k : ℕ) → j < length xs → n ≡ at ns i → k ≡ signs (get_or xs j 0)
-      → Leaves o p (filled_from i (drop j xs) ns) l q ys → Stored o p (said (get_or xs j 0) n) m r → Leaves m r (filled_from (i + k) (drop (j + 1) xs) ns) l q ys
+      → Leaves o p (filled_from i (drop j xs) ns) l q ys → Stored o p (said (get_or xs j 0) n) m r
+      → Leaves m r (filled_from (i + k) (drop (j + 1) xs) ns) l q ys
   unfolding filled_from
   fill_goes_on o m p r i j n k h hn hk left s o' r' t =
       let x = get_or xs j 0 in

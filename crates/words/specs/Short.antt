@@ -123,7 +123,8 @@ seen r x o =
 
 -- the line of a call with this outcome, which failed so, on this object; the caller and the target as a process, before it and after it
 unfoldable line : ℕ → Call → Outcome → Failed → Object → Process → Process → Process → Process → List ℕ
-unfolding action_of decimal_in said filled_from request_word number_word kind_word level_word has letter_word letters_of set_word text_if mac_reasons role_reasons flag_reason
+unfolding action_of decimal_in said filled_from request_word number_word kind_word level_word has
+    letter_word letters_of set_word text_if mac_reasons role_reasons flag_reason
     failed_text same_process same denies no_process bottom ◌and◌ ◌or◌
 line i c u w o r x r' x' =
     short_text

@@ -6,16 +6,12 @@ use Rattle.answers.proofs.outcome_numbers.Goals as goal
 
 pub returns : goal.returns
 returns c =
-    let c3 = c in
-    let c4 = c3 in
-    let c5 = c4 in
-    let c6 = c5 in
-    let a = c6.answers-answers.ensures in
+    let a = c.answers-answers.ensures in
     λ i. record {
-      number = c6.number.ensures i;
-      mac = (c5.code.ensures ∙ ap (λ (x : Answers). code x.mac) a) i;
-      fc = (c4.code-2.ensures ∙ ap (λ (x : Answers). code x.fc) a) i;
-      sim = (c3.code-3.ensures ∙ ap (λ (x : Answers). code x.sim) a) i;
+      number = c.number.ensures i;
+      mac = (c.code.ensures ∙ ap (λ (x : Answers). code x.mac) a) i;
+      fc = (c.code-2.ensures ∙ ap (λ (x : Answers). code x.fc) a) i;
+      sim = (c.code-3.ensures ∙ ap (λ (x : Answers). code x.sim) a) i;
       combined = (c.code-4.ensures ∙ ap (λ (x : Answers). code x.combined) a) i;
       object = c.object.ensures i;
       ff = (c.code-5.ensures ∙ ap (λ (x : Answers). code x.ff) a) i;

@@ -7,10 +7,9 @@ use Rattle.calls.proofs.enforce.Goals as goal
 
 pub returns : goal.returns
 returns c =
-    let x = c in
-    let a = x.args in
-    let v = x.view_of-v.ensures in
-    let o = enforced_outcome a.f a.c _ _ x.outcome_in-outcome.ensures v in
+    let a = c.args in
+    let v = c.view_of-v.ensures in
+    let o = enforced_outcome a.f a.c _ _ c.outcome_in-outcome.ensures v in
     λ i. record {
       facility = (c.changed-facility.ensures ∙ ap (changed a.f) c.change_by.ensures
           ∙ enforced_facility a.f a.c _ _ _ c.number.ensures o v) i;

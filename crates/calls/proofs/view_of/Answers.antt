@@ -11,11 +11,8 @@ use Rattle.calls.proofs.view_of.Goals as goal
 pub returns : goal.returns
 unfolding opens_of
 returns c =
-    let flags = c in
-    let opens = flags in
-    let object = opens in
     let owner =
-    object in
+    c in
     let receiver = owner in
     let d =
     receiver in
@@ -32,9 +29,9 @@ returns c =
       owner = (owner.user_at-owner.ensures ∙ ap (λ (r : Process). user_of f r.owner) caller.process_at-caller.ensures) i;
       target = record {
         receiver = receiver.process_at-receiver.ensures i;
-        object = object.object_at-object.ensures i;
-        opens = (opens.at-opens.ensures ∙ ap (λ (n : ℕ). at f.opens n) marks.mark_place-i.ensures) i;
+        object = c.object_at-object.ensures i;
+        opens = (c.at-opens.ensures ∙ ap (λ (n : ℕ). at f.opens n) marks.mark_place-i.ensures) i;
         owner = (c.user_at-other.ensures ∙ ap (λ (r : Process). user_of f r.owner) receiver.process_at-receiver.ensures) i;
       };
-      looked = record { flags = (flags.seen_at-flags.ensures ∙ ap (λ (n : ℕ). cond (on f.ff) n 0) (effective_lists (objects_in f) _)) i };
+      looked = record { flags = (c.seen_at-flags.ensures ∙ ap (λ (n : ℕ). cond (on f.ff) n 0) (effective_lists (objects_in f) _)) i };
     }

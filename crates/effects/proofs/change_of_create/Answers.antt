@@ -4,15 +4,13 @@ use Rattle.effects.proofs.change_of_create.Goals as goal
 
 pub returns-then-in_directory : goal.returns-then-in_directory
 returns-then-in_directory c =
-    let class = c in
-    let d = class in
-    let a = d.args in
+    let a = c.args in
     rw (
-      ← d.in_directory.ensures,
-      class.if-in_directory.true,
+      ← c.in_directory.ensures,
+      c.if-in_directory.true,
       c.created-o.ensures,
       c.moved-r.ensures,
-      class.class_in.ensures,
+      c.class_in.ensures,
       moved_by_law a.v a.c,
     )
 

@@ -4,6 +4,5 @@ use Rattle.effects.proofs.change_on_object.Goals as goal
 
 pub returns : goal.returns
 returns c =
-    let class = c in
-    let a = class.args in
-    rw (c.open_change-opens.ensures, c.moved-r.ensures, class.class_in.ensures, moved_by_law a.v a.c)
+    let a = c.args in
+    rw (c.open_change-opens.ensures, c.moved-r.ensures, c.class_in.ensures, moved_by_law a.v a.c)

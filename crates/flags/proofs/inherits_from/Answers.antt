@@ -21,17 +21,15 @@ returns-then-t-n c =
 pub returns-then-has-live : goal.returns-then-has-live
 unfolding ◌and◌
 returns-then-has-live c =
-    let c4 = c in
-    let e = c4.at-n.ensures in
-    let a = c4.args in
-    e ∙ from_parent (flagged a.lives.now a.flags.now a.parents.now) a.t true (λ z. c4.if-n-eq0.false (e ∙ z)) (omega (arith, c4.if-t-n.false))
+    let e = c.at-n.ensures in
+    let a = c.args in
+    e ∙ from_parent (flagged a.lives.now a.flags.now a.parents.now) a.t true (λ z. c.if-n-eq0.false (e ∙ z)) (omega (arith, c.if-t-n.false))
     (rw (← c.at-own.ensures, ← e, ← c.at-live.ensures, ← c.has.ensures) c.if-has-live.true)
 
 pub returns : goal.returns
 unfolding ◌and◌
 returns c =
-    let c4 = c in
-    let e = c4.at-n.ensures in
-    let a = c4.args in
-    from_parent (flagged a.lives.now a.flags.now a.parents.now) a.t false (λ z. c4.if-n-eq0.false (e ∙ z)) (omega (arith, c4.if-t-n.false))
+    let e = c.at-n.ensures in
+    let a = c.args in
+    from_parent (flagged a.lives.now a.flags.now a.parents.now) a.t false (λ z. c.if-n-eq0.false (e ∙ z)) (omega (arith, c.if-t-n.false))
     (rw (← c.at-own.ensures, ← e, ← c.at-live.ensures, ← c.has.ensures) c.if-has-live.false)

@@ -9,28 +9,20 @@ loop-i-init c = (search rules, account_begins _ _ _ _ c.read_setup-reading.ensur
 
 pub loop-i-smaller : goal.loop-i-smaller
 loop-i-smaller c =
-    let c5 = c in
-    let c6 = c5 in
-    let l = c6.loop-i in search (rules, l.invariant.0, c5.loop-i-test.true)
+    let l = c.loop-i in search (rules, l.invariant.0, c.loop-i-test.true)
 
 pub loop-i-preserved : goal.loop-i-preserved
 loop-i-preserved c =
-    let c3 = c in
-    let c4 = c3 in
-    let c5 = c4 in
-    let c6 = c5 in
-    let c13 = c6 in
-    let l = c6.loop-i in
-    let s = c13.args.calls.now in
-    let t = c5.loop-i-test.true in (
+    let l = c.loop-i in
+    let s = c.args.calls.now in
+    let t = c.loop-i-test.true in (
       search (rules, l.invariant.0, t),
       l.invariant.1
-          ∙ account_goes_on l.f l.l _ s l.i _ _ _ (search (rules, l.invariant.0, t)) c4.call_at-call.ensures c3.enforce-enforced.ensures
+          ∙ account_goes_on l.f l.l _ s l.i _ _ _ (search (rules, l.invariant.0, t)) c.call_at-call.ensures c.enforce-enforced.ensures
           c.number.ensures c.step-l.ensures,
     )
 
 pub returns : goal.returns
 returns c =
-    let c8 = c in
     let l = c.loop-i in
-    let s = c8.args.calls.now in sym (l.invariant.1 ∙ account_done l.f l.l s l.i (search (rules, l.invariant.0, c.loop-i-test.false)))
+    let s = c.args.calls.now in sym (l.invariant.1 ∙ account_done l.f l.l s l.i (search (rules, l.invariant.0, c.loop-i-test.false)))

@@ -21,10 +21,8 @@ loop-i-init c = (
 
 pub loop-i-preserved : goal.loop-i-preserved
 loop-i-preserved c =
-    let c4 = c in
-    let c9 = c4 in
-    let l = c4.loop-i in
-    let s = c9.args.calls.now in (
+    let l = c.loop-i in
+    let s = c.args.calls.now in (
       search rules,
       l.invariant.1 ∙ run_more l.f s l.i (search rules)
           ∙ ap (λ (g : Facility). run g (calls_of (drop (l.i + 4) s)))

@@ -10,10 +10,8 @@ use Rattle.lines.proofs.put_block.Goals as goal
 
 pub returns : goal.returns
 returns c =
-    let c7 = c in
-    let c11 = c7 in
-    let a = c11.args in
-    let l = c7.put_lines-lines.ensures in
+    let a = c.args in
+    let l = c.put_lines-lines.ensures in
     let t = lines_of a.first a.start a.calls.now in
     let s = short_line a.calls.now in
     let n = length-append t s in

@@ -11,15 +11,13 @@ use Rattle.lines.proofs.put_block_in.Goals as goal
 
 pub returns : goal.returns
 returns c =
-    let short = c in
-    let lines = short in
-    let a = lines.args in
-    let l = lines.put_lines_in-place.ensures in
+    let a = c.args in
+    let l = c.put_lines_in-place.ensures in
     let t = lines_of a.first (facility_at a.s.now) a.calls.now in
     let s = short_line a.calls.now in
     let n = length-append t s in
     let m = short_most a.calls.now in
-    let z = then a.out.now _ _ 0 _ _ t s l.stored short.put_short.ensures in
+    let z = then a.out.now _ _ 0 _ _ t s l.stored c.put_short.ensures in
     record {
       stored = z;
       becomes = l.becomes;

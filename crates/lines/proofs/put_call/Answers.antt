@@ -6,16 +6,11 @@ use Rattle.lines.proofs.put_call.Goals as goal
 
 pub returns : goal.returns
 returns c =
-    let c6 = c in
-    let c10 = c6 in
-    let c14 = c10 in
-    let c18 = c14 in
-    let c21 = c18 in
-    let a = c21.args in
-    let s0 = then a.out.now _ _ a.place _ _ (field a.index) (field a.c.request) c18.put_field-p1.ensures c14.put_byte-p2.ensures in
-    let s1 = then a.out.now _ _ a.place _ _ (field a.index ++ field a.c.request) (field a.c.process) s0 c10.put_byte-p3.ensures in
+    let a = c.args in
+    let s0 = then a.out.now _ _ a.place _ _ (field a.index) (field a.c.request) c.put_field-p1.ensures c.put_byte-p2.ensures in
+    let s1 = then a.out.now _ _ a.place _ _ (field a.index ++ field a.c.request) (field a.c.process) s0 c.put_byte-p3.ensures in
     let s2 = then a.out.now _ _ a.place _ _ (field a.index ++ field a.c.request ++ field a.c.process) (field a.c.target) s1
-    c6.put_byte-p4.ensures in
+    c.put_byte-p4.ensures in
     let s3 = then a.out.now _ _ a.place _ _ (field a.index ++ field a.c.request ++ field a.c.process ++ field a.c.target)
     (field a.c.extra) s2 c.put_byte.ensures in
     s3

@@ -6,16 +6,12 @@ use Rattle.lines.proofs.put_level.Goals as goal
 
 pub returns-then-running-eq1 : goal.returns-then-running-eq1
 returns-then-running-eq1 c =
-    let c4 = c in
-    let c6 = c4 in
-    let a = c6.args in
+    let a = c.args in
     as_text a.out.now _ _ (level_part a.running a.level) a.place _
-    (level_runs a.running a.level c4.if-running-eq1.true) c.put_decimal.ensures
+    (level_runs a.running a.level c.if-running-eq1.true) c.put_decimal.ensures
 
 pub returns : goal.returns
 returns c =
-    let c5 = c in
-    let c7 = c5 in
-    let a = c7.args in
+    let a = c.args in
     as_text a.out.now _ _ (level_part a.running a.level) a.place _
-    (level_none a.running a.level c5.if-running-eq1.false) c.put_text.ensures
+    (level_none a.running a.level c.if-running-eq1.false) c.put_text.ensures

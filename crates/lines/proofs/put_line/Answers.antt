@@ -9,18 +9,14 @@ use Rattle.lines.proofs.put_line.Goals as goal
 pub returns : goal.returns
 unfolding line_text
 returns c =
-    let feed = c in
-    let level = feed in
-    let outcome = level in
-    let x = outcome in
-    let a = x.args in
-    let g = x.well_formed.1.1.1.0 in
-    let w = x.ranges in
-    let o = outcome.put_outcome-p1.ensures in
+    let a = c.args in
+    let g = c.well_formed.1.1.1.0 in
+    let w = c.ranges in
+    let o = c.put_outcome-p1.ensures in
     let first = outcome_text a.index a.c a.outcome in
     let second = level_part a.running a.level in
-    let s0 = then a.out.now _ _ a.place _ _ first second o.stored level.put_level-p2.ensures in record {
-      stored = then a.out.now _ _ a.place _ _ (first ++ second) (10 ∷ []) s0 feed.put_text.ensures;
+    let s0 = then a.out.now _ _ a.place _ _ first second o.stored c.put_level-p2.ensures in record {
+      stored = then a.out.now _ _ a.place _ _ (first ++ second) (10 ∷ []) s0 c.put_text.ensures;
       level_len_bound = line_short a.index a.c a.outcome a.running a.level (search (rules, w)) (search (rules, g)) (search (rules, g)) (search (rules, g))
           (search (rules, g.1.1)) o.outcome_bound o.outcome_bound_2 (search (rules, w));
     }

@@ -33,28 +33,21 @@ overflow_add-index c = let l = c.loop-i in search (rules, l.invariant.0, l.invar
 
 pub loop-i-smaller : goal.loop-i-smaller
 loop-i-smaller c =
-    let line = c in
-    let turn = line in
-    search (rules, turn.loop-i.invariant.0, turn.loop-i-test.true)
+    search (rules, c.loop-i.invariant.0, c.loop-i-test.true)
 
 pub loop-i-preserved : goal.loop-i-preserved
 loop-i-preserved c =
-    let line = c in
-    let level = line in
-    let running = level in
-    let called = running in
-    let turn = called in
-    let l = turn.loop-i in
-    let a = turn.args in
-    let t = turn.loop-i-test.true in
-    let e = called.enforce-enforced.ensures in
-    let p = line.put_line-place.ensures in (
+    let l = c.loop-i in
+    let a = c.args in
+    let t = c.loop-i-test.true in
+    let e = c.enforce-enforced.ensures in
+    let p = c.put_line-place.ensures in (
       search (rules, l.invariant.0, t),
       search (rules, l.invariant.1),
       left_goes_on a.out.now a.first _ a.calls.now l.out l.place l.index l.f l.i _ _ _ _ _ _ _ l.invariant.2
           (search (rules, l.invariant.0, t))
-          called.call_at-c.ensures (ap (λ (x : Enforced). x.outcome) e) (ap (λ (x : Enforced). x.facility) e) running.at-running.ensures
-          level.at-level.ensures
+          c.call_at-c.ensures (ap (λ (x : Enforced). x.outcome) e) (ap (λ (x : Enforced). x.facility) e) c.at-running.ensures
+          c.at-level.ensures
           p.stored p.level_len_bound,
     )
 

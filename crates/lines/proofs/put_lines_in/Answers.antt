@@ -33,26 +33,20 @@ overflow_add-index c = let l = c.loop-i in search (rules, l.invariant.0, l.invar
 
 pub loop-i-smaller : goal.loop-i-smaller
 loop-i-smaller c =
-    let c9 = c in
-    let turn = c9 in
-    search (rules, turn.loop-i.invariant.0, turn.loop-i-test.true)
+    search (rules, c.loop-i.invariant.0, c.loop-i-test.true)
 
 pub loop-i-preserved : goal.loop-i-preserved
 loop-i-preserved c =
-    let line = c in
-    let caller = line in
-    let called = caller in
-    let turn = called in
-    let l = turn.loop-i in
-    let a = turn.args in
-    let t = turn.loop-i-test.true in
-    let e = called.enforce_in-outcome.ensures in
-    let b = process_bytes_law _ (facility_at called.enforce_in-outcome.new.s) _ caller.process_of-caller.ensures in
-    let p = line.put_line-place.ensures in (
+    let l = c.loop-i in
+    let a = c.args in
+    let t = c.loop-i-test.true in
+    let e = c.enforce_in-outcome.ensures in
+    let b = process_bytes_law _ (facility_at c.enforce_in-outcome.new.s) _ c.process_of-caller.ensures in
+    let p = c.put_line-place.ensures in (
       search (rules, l.invariant.0, t),
       search (rules, l.invariant.1),
       left_goes_on a.out.now a.first _ a.calls.now l.out l.place l.index (facility_at l.s) l.i _ _ _ _ _ _ _ l.invariant.2
-          (search (rules, l.invariant.0, t)) called.call_at-c.ensures e.value e.becomes.0 b.0 b.1 p.stored p.level_len_bound,
+          (search (rules, l.invariant.0, t)) c.call_at-c.ensures e.value e.becomes.0 b.0 b.1 p.stored p.level_len_bound,
       e.becomes.1 ∙ l.invariant.3,
     )
 

@@ -9,7 +9,9 @@ use Rattle.lines.proofs.put_lines_in.Given as goal
 
 abbrev pub invariant-loop-i : goal.invariant-loop-i
 invariant-loop-i l =
-    (l.i ≤ length l.calls) × (l.index ≤ l.first + l.i) × Left l.initial.out l.first (facility_at l.initial.s) l.calls l.out l.place l.index (facility_at l.s) l.i × (padding l.s ≡ padding l.initial.s)
+    (l.i ≤ length l.calls) × (l.index ≤ l.first + l.i)
+    × Left l.initial.out l.first (facility_at l.initial.s) l.calls l.out l.place l.index (facility_at l.s) l.i
+    × (padding l.s ≡ padding l.initial.s)
 
 abbrev pub decreases-loop-i : goal.decreases-loop-i
 decreases-loop-i l =

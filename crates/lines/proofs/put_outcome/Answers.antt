@@ -13,17 +13,11 @@ use Rattle.lines.proofs.put_outcome.Goals as goal
 
 pub returns : goal.returns
 returns c =
-    let c6 = c in
-    let c7 = c6 in
-    let c11 = c7 in
-    let c13 = c11 in
-    let c14 = c13 in
-    let c16 = c14 in
-    let a = c16.args in
-    let n = c7.number in
-    let k = c13.code-code in
-    let d : k.result ≡ code (answers_of a.outcome).combined = k.ensures ∙ ap (λ (x : Answers). code x.combined) c14.answers-answers.ensures in
-    let s0 = then a.out.now _ _ a.place _ _ (call_text a.index a.c) (field n.result) c11.put_call-p1.ensures c6.put_byte-p2.ensures in
+    let a = c.args in
+    let n = c.number in
+    let k = c.code-code in
+    let d : k.result ≡ code (answers_of a.outcome).combined = k.ensures ∙ ap (λ (x : Answers). code x.combined) c.answers-answers.ensures in
+    let s0 = then a.out.now _ _ a.place _ _ (call_text a.index a.c) (field n.result) c.put_call-p1.ensures c.put_byte-p2.ensures in
     let s1 = then a.out.now _ _ a.place _ _ (call_text a.index a.c ++ field n.result) (field k.result) s0
     c.put_byte.ensures in record {
       stored = as_text a.out.now _ _ (outcome_text a.index a.c a.outcome) a.place _

@@ -8,13 +8,9 @@ use Rattle.lines.proofs.put_setup.Goals as goal
 pub returns : goal.returns
 unfolding setup_line
 returns c =
-    let c7 = c in
-    let c11 = c7 in
-    let c15 = c11 in
-    let c19 = c15 in
-    let a = c19.args in
-    let s0 = then a.out.now _ _ 0 _ _ (ascii "set-up ") (field a.number) c15.put_text-p1.ensures c11.put_byte-p2.ensures in
-    let s1 = then a.out.now _ _ 0 _ _ (ascii "set-up " ++ field a.number) (decimal a.index) s0 c7.put_decimal-p3.ensures in
+    let a = c.args in
+    let s0 = then a.out.now _ _ 0 _ _ (ascii "set-up ") (field a.number) c.put_text-p1.ensures c.put_byte-p2.ensures in
+    let s1 = then a.out.now _ _ 0 _ _ (ascii "set-up " ++ field a.number) (decimal a.index) s0 c.put_decimal-p3.ensures in
     let s2 = then a.out.now _ _ 0 _ _ (ascii "set-up " ++ field a.number ++ decimal a.index) ((10 ∷ [])) s1 c.put_text.ensures in
     record {
       stored = s2;

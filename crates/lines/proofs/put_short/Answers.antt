@@ -6,16 +6,12 @@ use Rattle.lines.proofs.put_short.Goals as goal
 
 pub returns-then-calls-eq0 : goal.returns-then-calls-eq0
 returns-then-calls-eq0 c =
-    let c5 = c in
-    let c8 = c5 in
-    let a = c8.args in
-    as_text a.out.now _ _ (short_line a.calls.now) a.place _ (not_short a.calls.now c5.if-calls-eq0.true)
+    let a = c.args in
+    as_text a.out.now _ _ (short_line a.calls.now) a.place _ (not_short a.calls.now c.if-calls-eq0.true)
     c.put_text.ensures
 
 pub returns : goal.returns
 returns c =
-    let c5 = c in
-    let c8 = c5 in
-    let a = c8.args in
-    as_text a.out.now _ _ (short_line a.calls.now) a.place _ (is_short a.calls.now c5.if-calls-eq0.false)
+    let a = c.args in
+    as_text a.out.now _ _ (short_line a.calls.now) a.place _ (is_short a.calls.now c.if-calls-eq0.false)
     c.put_text-2.ensures

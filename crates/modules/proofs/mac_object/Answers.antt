@@ -20,6 +20,4 @@ returns-then-u-eq1 c =
 pub returns : goal.returns
 unfolding mac_object
 returns c =
-    let c3 = c in
-    let c4 = c3 in
-    rw (c.mac_class.ensures, ← c4.is_given.ensures, c3.if-not-is_given.false, ne_eqb _ 1 c.if-u-eq1.false)
+    rw (c.mac_class.ensures, ← c.is_given.ensures, c.if-not-is_given.false, ne_eqb _ 1 c.if-u-eq1.false)

@@ -6,5 +6,4 @@ use Rattle.modules.proofs.may_read.Goals as goal
 pub returns : goal.returns
 unfolding may_read ◌and◌ ◌or◌
 returns c =
-    let c2 = c in
-    rw (c.at_most-2.ensures, c2.at_most.ensures, c2.join-above.ensures, c2.at_most-below.ensures)
+    rw (c.at_most-2.ensures, c.at_most.ensures, c.join-above.ensures, c.at_most-below.ensures)

@@ -6,6 +6,4 @@ use Rattle.modules.proofs.may_write.Goals as goal
 pub returns : goal.returns
 unfolding may_write ◌and◌ ◌or◌
 returns c =
-    let c3 = c in
-    let c5 = c3 in
-    rw (c.at_most-3.ensures, c.at_most-2.ensures, c3.at_most.ensures, c5.same-held.ensures)
+    rw (c.at_most-3.ensures, c.at_most-2.ensures, c.at_most.ensures, c.same-held.ensures)

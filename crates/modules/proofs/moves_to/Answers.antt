@@ -8,10 +8,8 @@ returns-then-same c = rw (sym c.same.ensures ∙ c.if-same.true)
 
 pub returns-then-r-lt-MOST_MOVES : goal.returns-then-r-lt-MOST_MOVES
 returns-then-r-lt-MOST_MOVES c =
-    let d = c in
-    rw (sym d.same.ensures ∙ d.if-same.false, lt-ltb _ _ c.if-r-lt-MOST_MOVES.true)
+    rw (sym c.same.ensures ∙ c.if-same.false, lt-ltb _ _ c.if-r-lt-MOST_MOVES.true)
 
 pub returns : goal.returns
 returns c =
-    let d = c in
-    rw (sym d.same.ensures ∙ d.if-same.false, le-ltb _ _ c.if-r-lt-MOST_MOVES.false)
+    rw (sym c.same.ensures ∙ c.if-same.false, le-ltb _ _ c.if-r-lt-MOST_MOVES.false)

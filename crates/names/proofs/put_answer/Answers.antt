@@ -9,6 +9,5 @@ use Rattle.names.proofs.put_answer.Goals as goal
 pub returns : goal.returns
 unfolding size_in trimmed word_at answer_word
 returns c =
-    let r = c in
-    let a = r.args in
-    as_text a.out.now _ _ (answer_word a.answer) a.place _ (in_table no_answer answer_words _ 11 a.answer refl) r.put_word.ensures
+    let a = c.args in
+    as_text a.out.now _ _ (answer_word a.answer) a.place _ (in_table no_answer answer_words _ 11 a.answer refl) c.put_word.ensures

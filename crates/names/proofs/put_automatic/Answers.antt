@@ -9,6 +9,5 @@ use Rattle.names.proofs.put_automatic.Goals as goal
 pub returns : goal.returns
 unfolding size_in trimmed word_at automatic_word
 returns c =
-    let r = c in
-    let a = r.args in
-    as_text a.out.now _ _ (automatic_word a.automatic) a.place _ (in_table not_automatic automatic_words _ 13 a.automatic refl) r.put_word.ensures
+    let a = c.args in
+    as_text a.out.now _ _ (automatic_word a.automatic) a.place _ (in_table not_automatic automatic_words _ 13 a.automatic refl) c.put_word.ensures

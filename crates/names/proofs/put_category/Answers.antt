@@ -20,8 +20,6 @@ returns-then-category-eq-UNSET c = let r = c in rw (eq-eqb _ 255 r.if-category-e
 pub returns : goal.returns
 unfolding size_in trimmed word_at
 returns c =
-    let r = c in
-    let test = r in
-    let a = test.args in
+    let a = c.args in
     as_text a.out.now _ _ (category_word a.category) a.place _
-    (in_table no_category category_words _ 11 a.category refl ∙ given a.category test.if-category-eq-UNSET.false) r.put_word.ensures
+    (in_table no_category category_words _ 11 a.category refl ∙ given a.category c.if-category-eq-UNSET.false) c.put_word.ensures

@@ -9,6 +9,5 @@ use Rattle.names.proofs.put_data_type.Goals as goal
 pub returns : goal.returns
 unfolding size_in trimmed word_at data_type_word
 returns c =
-    let r = c in
-    let a = r.args in
-    as_text a.out.now _ _ (data_type_word a.datatype) a.place _ (in_table no_data_type data_type_words _ 20 a.datatype refl) r.put_word.ensures
+    let a = c.args in
+    as_text a.out.now _ _ (data_type_word a.datatype) a.place _ (in_table no_data_type data_type_words _ 20 a.datatype refl) c.put_word.ensures

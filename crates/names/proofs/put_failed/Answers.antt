@@ -7,9 +7,6 @@ use Rattle.names.proofs.put_failed.Goals as goal
 pub returns : goal.returns
 unfolding failed_text
 returns c =
-    let c3 = c in
-    let c2 = c3 in
-    let c1 = c2 in
-    let a = c1.args in
+    let a = c.args in
     stores a.out.now a.place (mac_reasons a.w) (role_reasons a.w ∷ flag_reason a.w.flag a.source ∷ [])
-    (c1.put_mac_reasons-p.ensures ▸ c2.put_role_reasons-p.ensures ▸ c3.put_flag_reason.ensures ▸ end)
+    (c.put_mac_reasons-p.ensures ▸ c.put_role_reasons-p.ensures ▸ c.put_flag_reason.ensures ▸ end)

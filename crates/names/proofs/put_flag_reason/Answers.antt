@@ -12,20 +12,13 @@ use Rattle.names.proofs.put_flag_reason.Goals as goal
 pub returns-then-flag-eq0 : goal.returns-then-flag-eq0
 unfolding flag_reason
 returns-then-flag-eq0 c =
-    let test = c in
-    let a = test.args in
-    rw (eq-eqb _ 0 test.if-flag-eq0.true) (store_empty a.out.now a.place _ c.least.ensures)
+    let a = c.args in
+    rw (eq-eqb _ 0 c.if-flag-eq0.true) (store_empty a.out.now a.place _ c.least.ensures)
 
 pub returns : goal.returns
 unfolding flag_reason
 returns c =
-    let c5 = c in
-    let c4 = c5 in
-    let c3 = c4 in
-    let c2 = c3 in
-    let c1 = c2 in
-    let test = c1 in
-    let a = test.args in
-    rw (ne_eqb _ 0 test.if-flag-eq0.false)
+    let a = c.args in
+    rw (ne_eqb _ 0 c.if-flag-eq0.false)
     (stores a.out.now a.place (ascii " (") (flag_word a.flag ∷ ascii " of object " ∷ decimal a.source ∷ ascii ")" ∷ [])
-    (c1.put_text-p.ensures ▸ c2.put_flag_word-p.ensures ▸ c3.put_text-p-2.ensures ▸ c4.put_small-p.ensures ▸ c5.put_text.ensures ▸ end))
+    (c.put_text-p.ensures ▸ c.put_flag_word-p.ensures ▸ c.put_text-p-2.ensures ▸ c.put_small-p.ensures ▸ c.put_text.ensures ▸ end))

@@ -25,9 +25,8 @@ in_row m =
 pub returns : goal.returns
 unfolding size_in trimmed word_at
 returns c =
-    let r = c in
-    let n = r.flag_row in
-    let a = r.args in
+    let n = c.flag_row in
+    let a = c.args in
     let s = as_text a.out.now _ _ (word_in no_flag flag_words n.result) a.place _
-    (in_table no_flag flag_words _ 13 n.result refl) r.put_word.ensures in
+    (in_table no_flag flag_words _ 13 n.result refl) c.put_word.ensures in
     as_text a.out.now _ _ (flag_word a.flag) a.place _ (ap (word_in no_flag flag_words) n.ensures ∙ in_row a.flag) s

@@ -9,6 +9,5 @@ use Rattle.names.proofs.put_kind.Goals as goal
 pub returns : goal.returns
 unfolding size_in trimmed word_at kind_word
 returns c =
-    let r = c in
-    let a = r.args in
-    as_text a.out.now _ _ (kind_word a.kind) a.place _ (in_table no_kind kind_words _ 12 a.kind refl) r.put_word.ensures
+    let a = c.args in
+    as_text a.out.now _ _ (kind_word a.kind) a.place _ (in_table no_kind kind_words _ 12 a.kind refl) c.put_word.ensures

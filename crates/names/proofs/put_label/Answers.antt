@@ -7,7 +7,5 @@ use Rattle.names.proofs.put_label.Goals as goal
 pub returns : goal.returns
 unfolding label_word
 returns c =
-    let c2 = c in
-    let c1 = c2 in
-    let a = c1.args in
-    stores a.out.now a.place (level_word a.l.level) (set_word a.l.set ∷ []) (c1.put_level-p.ensures ▸ c2.put_set.ensures ▸ end)
+    let a = c.args in
+    stores a.out.now a.place (level_word a.l.level) (set_word a.l.set ∷ []) (c.put_level-p.ensures ▸ c.put_set.ensures ▸ end)

@@ -11,6 +11,5 @@ returns-then-has c = let test = c in rw (sym test.has.ensures ∙ test.if-has.tr
 pub returns : goal.returns
 unfolding letter_word
 returns c =
-    let test = c in
-    let a = test.args in
-    rw (sym test.has.ensures ∙ test.if-has.false) (store_empty a.out.now a.place _ c.least.ensures)
+    let a = c.args in
+    rw (sym c.has.ensures ∙ c.if-has.false) (store_empty a.out.now a.place _ c.least.ensures)

@@ -8,32 +8,16 @@ use Rattle.names.proofs.put_letters.Goals as goal
 
 pub shape_of-out : goal.shape_of-out
 shape_of-out c =
-    let c8 = c in
-    let c7 = c8 in
-    let c6 = c7 in
-    let c5 = c6 in
-    let c4 = c5 in
-    let c3 = c4 in
-    let c2 = c3 in
-    let c1 = c2 in
-    c8.put_letter.auto.out ∙ c7.put_letter-p-7.auto.out ∙ c6.put_letter-p-6.auto.out ∙ c5.put_letter-p-5.auto.out ∙ c4.put_letter-p-4.auto.out
-    ∙ c3.put_letter-p-3.auto.out ∙ c2.put_letter-p-2.auto.out ∙ c1.put_letter-p.auto.out
+    c.put_letter.auto.out ∙ c.put_letter-p-7.auto.out ∙ c.put_letter-p-6.auto.out ∙ c.put_letter-p-5.auto.out ∙ c.put_letter-p-4.auto.out
+    ∙ c.put_letter-p-3.auto.out ∙ c.put_letter-p-2.auto.out ∙ c.put_letter-p.auto.out
 
 pub returns : goal.returns
 unfolding letters_of
 returns c =
-    let c8 = c in
-    let c7 = c8 in
-    let c6 = c7 in
-    let c5 = c6 in
-    let c4 = c5 in
-    let c3 = c4 in
-    let c2 = c3 in
-    let c1 = c2 in
-    let a = c1.args in
+    let a = c.args in
     let s = a.s in
     stores a.out.now a.place (letter_word 1 (ascii "a") s)
     (letter_word 2 (ascii "b") s ∷ letter_word 4 (ascii "c") s ∷ letter_word 8 (ascii "d") s
     ∷ letter_word 16 (ascii "e") s ∷ letter_word 32 (ascii "f") s ∷ letter_word 64 (ascii "g") s ∷ letter_word 128 (ascii "h") s ∷ [])
-    (c1.put_letter-p.ensures ▸ c2.put_letter-p-2.ensures ▸ c3.put_letter-p-3.ensures ▸ c4.put_letter-p-4.ensures
-    ▸ c5.put_letter-p-5.ensures ▸ c6.put_letter-p-6.ensures ▸ c7.put_letter-p-7.ensures ▸ c8.put_letter.ensures ▸ end)
+    (c.put_letter-p.ensures ▸ c.put_letter-p-2.ensures ▸ c.put_letter-p-3.ensures ▸ c.put_letter-p-4.ensures
+    ▸ c.put_letter-p-5.ensures ▸ c.put_letter-p-6.ensures ▸ c.put_letter-p-7.ensures ▸ c.put_letter.ensures ▸ end)

@@ -9,6 +9,5 @@ use Rattle.names.proofs.put_number.Goals as goal
 pub returns : goal.returns
 unfolding size_in trimmed word_at number_word
 returns c =
-    let r = c in
-    let a = r.args in
-    as_text a.out.now _ _ (number_word a.number) a.place _ (in_table no_number number_words _ 31 a.number refl) r.put_word.ensures
+    let a = c.args in
+    as_text a.out.now _ _ (number_word a.number) a.place _ (in_table no_number number_words _ 31 a.number refl) c.put_word.ensures

@@ -9,15 +9,12 @@ use Rattle.names.proofs.put_reason.Goals as goal
 pub returns-then-failed : goal.returns-then-failed
 unfolding size_in trimmed word_at text_if
 returns-then-failed c =
-    let r = c in
-    let test = r in
-    let a = test.args in
-    rw test.if-failed.true
-    (as_text a.out.now _ _ (reason_word a.row) a.place _ (in_table no_condition reason_words _ 46 a.row refl) r.put_word.ensures)
+    let a = c.args in
+    rw c.if-failed.true
+    (as_text a.out.now _ _ (reason_word a.row) a.place _ (in_table no_condition reason_words _ 46 a.row refl) c.put_word.ensures)
 
 pub returns : goal.returns
 unfolding text_if
 returns c =
-    let test = c in
-    let a = test.args in
-    rw test.if-failed.false (store_empty a.out.now a.place _ c.least.ensures)
+    let a = c.args in
+    rw c.if-failed.false (store_empty a.out.now a.place _ c.least.ensures)

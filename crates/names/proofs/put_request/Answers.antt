@@ -9,6 +9,5 @@ use Rattle.names.proofs.put_request.Goals as goal
 pub returns : goal.returns
 unfolding size_in trimmed word_at request_word
 returns c =
-    let r = c in
-    let a = r.args in
-    as_text a.out.now _ _ (request_word a.request) a.place _ (in_table no_request request_words _ 23 a.request refl) r.put_word.ensures
+    let a = c.args in
+    as_text a.out.now _ _ (request_word a.request) a.place _ (in_table no_request request_words _ 23 a.request refl) c.put_word.ensures

@@ -9,6 +9,5 @@ use Rattle.names.proofs.put_role.Goals as goal
 pub returns : goal.returns
 unfolding size_in trimmed word_at role_word
 returns c =
-    let r = c in
-    let a = r.args in
-    as_text a.out.now _ _ (role_word a.role) a.place _ (in_table no_role role_words _ 20 a.role refl) r.put_word.ensures
+    let a = c.args in
+    as_text a.out.now _ _ (role_word a.role) a.place _ (in_table no_role role_words _ 20 a.role refl) c.put_word.ensures

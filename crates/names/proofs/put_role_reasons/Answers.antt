@@ -8,11 +8,8 @@ use Rattle.names.proofs.put_role_reasons.Goals as goal
 pub returns : goal.returns
 unfolding role_reasons
 returns c =
-    let c3 = c in
-    let c2 = c3 in
-    let c1 = c2 in
-    let a = c1.args in
+    let a = c.args in
     let w = a.w in
     stores a.out.now a.place (text_if w.nocategory (ascii " (category unset)"))
     (text_if w.category (ascii " (category not of the role)") ∷ text_if w.datatype (ascii " (security information, not security officer)") ∷ [])
-    (c1.put_reason-p.ensures ▸ c2.put_reason-p-2.ensures ▸ c3.put_reason.ensures ▸ end)
+    (c.put_reason-p.ensures ▸ c.put_reason-p-2.ensures ▸ c.put_reason.ensures ▸ end)

@@ -10,23 +10,17 @@ use Rattle.names.proofs.put_set.Goals as goal
 pub returns-then-s-eq0 : goal.returns-then-s-eq0
 unfolding set_word
 returns-then-s-eq0 c =
-    let test = c in
-    let a = test.args in
-    rw (eq-eqb _ 0 test.if-s-eq0.true) (store_empty a.out.now a.place _ c.least.ensures)
+    let a = c.args in
+    rw (eq-eqb _ 0 c.if-s-eq0.true) (store_empty a.out.now a.place _ c.least.ensures)
 
 pub returns-then-s-eq-ALL_CATEGORIES : goal.returns-then-s-eq-ALL_CATEGORIES
 unfolding set_word
 returns-then-s-eq-ALL_CATEGORIES c =
-    let r = c in
-    let test = r in
-    rw (ne_eqb _ 0 test.if-s-eq0.false, eq-eqb _ 255 test.if-s-eq-ALL_CATEGORIES.true) r.put_text.ensures
+    rw (ne_eqb _ 0 c.if-s-eq0.false, eq-eqb _ 255 c.if-s-eq-ALL_CATEGORIES.true) c.put_text.ensures
 
 pub returns : goal.returns
 unfolding set_word
 returns c =
-    let letters = c in
-    let blank = letters in
-    let test = blank in
-    let a = test.args in
-    rw (ne_eqb _ 0 test.if-s-eq0.false, ne_eqb _ 255 test.if-s-eq-ALL_CATEGORIES.false)
-    (stores a.out.now a.place (ascii " ") (letters_of a.s ∷ []) (blank.put_text-p.ensures ▸ letters.put_letters.ensures ▸ end))
+    let a = c.args in
+    rw (ne_eqb _ 0 c.if-s-eq0.false, ne_eqb _ 255 c.if-s-eq-ALL_CATEGORIES.false)
+    (stores a.out.now a.place (ascii " ") (letters_of a.s ∷ []) (c.put_text-p.ensures ▸ c.put_letters.ensures ▸ end))

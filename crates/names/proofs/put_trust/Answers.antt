@@ -9,6 +9,5 @@ use Rattle.names.proofs.put_trust.Goals as goal
 pub returns : goal.returns
 unfolding size_in trimmed word_at trust_word
 returns c =
-    let r = c in
-    let a = r.args in
-    as_text a.out.now _ _ (trust_word a.trusted) a.place _ (in_table untrusted trust_words _ 9 a.trusted refl) r.put_word.ensures
+    let a = c.args in
+    as_text a.out.now _ _ (trust_word a.trusted) a.place _ (in_table untrusted trust_words _ 9 a.trusted refl) c.put_word.ensures

@@ -21,9 +21,6 @@ slice_bounds-put_text-end c = let n = c.size-size in sym (length-take-le n.resul
 
 pub returns : goal.returns
 returns c =
-    let r = c in
-    let c3 = r in
-    let c5 = c3 in
-    let a = c5.args in
+    let a = c.args in
     as_text a.out.now _ _ _ a.place _
-    (word_at_law a.table.now a.width _ _ _ _ c5.least.ensures (add-sub_cancel_left _ _) c3.size-size.ensures) r.put_text.ensures
+    (word_at_law a.table.now a.width _ _ _ _ c.least.ensures (add-sub_cancel_left _ _) c.size-size.ensures) c.put_text.ensures

@@ -28,14 +28,11 @@ overflow_add-result c = search rules
 pub returns : goal.returns
 unfolding add_modes ◌or◌
 returns c =
-    let c3 = c in
-    let c4 = c3 in
-    let c5 = c4 in
     rw (
       c.bit-2.ensures.value,
       c.bit.ensures.value,
       c.writing-2.ensures,
-      c3.writing.ensures,
-      c4.reading-2.ensures,
-      c5.reading.ensures,
+      c.writing.ensures,
+      c.reading-2.ensures,
+      c.reading.ensures,
     )

@@ -30,8 +30,7 @@ shape_of-marks c = c.loop-i.invariant.2
 pub returns : goal.returns
 returns c =
     let l = c.loop-i in
-    let x = c in
-    l.invariant.1 ∙ column_cleared x.args.marks.now x.args.t (l.i / most_objects) (search rules) (omega (arith, l.invariant.0, c.loop-i-test.false))
+    l.invariant.1 ∙ column_cleared c.args.marks.now c.args.t (l.i / most_objects) (search rules) (omega (arith, l.invariant.0, c.loop-i-test.false))
 
 pub returns-then-t-ge-ROW : goal.returns-then-t-ge-ROW
 returns-then-t-ge-ROW c = no_object_closed _ _ (search rules)

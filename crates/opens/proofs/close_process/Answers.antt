@@ -21,17 +21,15 @@ loop-i-init c =
 pub bounds-marks-i : goal.bounds-marks-i
 bounds-marks-i c =
     let l = c.loop-i in
-    let x = c in
-    let b = bounded l.i (length x.args.marks.now) _ x.args.p x.least-end.ensures c.loop-i-test.true in
+    let b = bounded l.i (length c.args.marks.now) _ c.args.p c.least-end.ensures c.loop-i-test.true in
     let h : l.i < length l.marks = omega (arith, l.invariant.3, b.0) in
     search (rules, h)
 
 pub loop-i-preserved : goal.loop-i-preserved
 loop-i-preserved c =
     let l = c.loop-i in
-    let x = c in
-    let p = x.args.p in
-    let b = bounded l.i (length x.args.marks.now) _ p x.least-end.ensures c.loop-i-test.true in
+    let p = c.args.p in
+    let b = bounded l.i (length c.args.marks.now) _ p c.least-end.ensures c.loop-i-test.true in
     let w : l.i ≡ place p (l.i - place p 0) = omega (arith, l.invariant.0) in
     let e : l.i - place p 0 + 1 ≡ l.i + 1 - place p 0 = omega (arith, l.invariant.0) in (
       omega (arith, l.invariant.0),
@@ -43,12 +41,11 @@ loop-i-preserved c =
 pub returns : goal.returns
 returns c =
     let l = c.loop-i in
-    let x = c in
-    let p = x.args.p in
-    let m = x.args.marks.now in
+    let p = c.args.p in
+    let m = c.args.marks.now in
     l.invariant.2
     ∙ row_cleared m p (l.i - place p 0)
-    (λ k h b. omega (arith, x.least-end.ensures, c.loop-i-test.false))
+    (λ k h b. omega (arith, c.least-end.ensures, c.loop-i-test.false))
     (omega (arith, l.invariant.1))
 
 pub shape_of-marks : goal.shape_of-marks

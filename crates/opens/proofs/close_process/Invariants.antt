@@ -8,7 +8,8 @@ use Rattle.opens.proofs.close_process.Given as goal
 
 abbrev pub invariant-loop-i : goal.invariant-loop-i
 invariant-loop-i l =
-    (place l.p 0 ≤ l.i) × (l.i ≤ place l.p most_objects) × (l.marks ≡ puts l.initial.marks (λ j. place l.p j) (λ j. 0) (l.i - place l.p 0)) × (length l.marks ≡ l.n)
+    (place l.p 0 ≤ l.i) × (l.i ≤ place l.p most_objects) × (l.marks ≡ puts l.initial.marks (λ j. place l.p j) (λ j. 0) (l.i - place l.p 0))
+    × (length l.marks ≡ l.n)
 
 abbrev pub decreases-loop-i : goal.decreases-loop-i
 decreases-loop-i l =

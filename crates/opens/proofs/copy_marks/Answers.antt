@@ -9,11 +9,10 @@ use Rattle.opens.proofs.copy_marks.Goals as goal
 
 pub loop-k-preserved : goal.loop-k-preserved
 loop-k-preserved c =
-    let x = c in
-    let l = x.loop-k in
-    let a = x.args in (
+    let l = c.loop-k in
+    let a = c.args in (
       search rules,
-      c.put_mark.ensures ∙ ap (set l.marks (place a.t l.k)) x.at-v.ensures
+      c.put_mark.ensures ∙ ap (set l.marks (place a.t l.k)) c.at-v.ensures
           ∙ copy_more _ l.marks a.p a.t l.k (search rules) l.invariant.1,
     )
 

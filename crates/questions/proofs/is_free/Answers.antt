@@ -6,6 +6,4 @@ use Rattle.questions.proofs.is_free.Goals as goal
 pub returns : goal.returns
 unfolding is_free ◌and◌
 returns c =
-    let c3 = c in
-    let c5 = c3 in
-    rw (c.only_if-clone.ensures, c3.only_if-login.ensures, c.is_clone.ensures, c5.is_login.ensures)
+    rw (c.only_if-clone.ensures, c.only_if-login.ensures, c.is_clone.ensures, c.is_login.ensures)

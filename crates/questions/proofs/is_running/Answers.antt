@@ -6,6 +6,4 @@ use Rattle.questions.proofs.is_running.Goals as goal
 pub returns : goal.returns
 unfolding is_running ◌and◌
 returns c =
-    let c3 = c in
-    let c5 = c3 in
-    rw (c.only_if-receiver.ensures, c3.only_if-caller.ensures, c.is_send_signal.ensures, c5.is_login.ensures)
+    rw (c.only_if-receiver.ensures, c.only_if-caller.ensures, c.is_send_signal.ensures, c.is_login.ensures)

@@ -15,6 +15,4 @@ returns-then-c-eq-WRITE_REQUEST c = rw (ne_eqb _ 12 c.if-c-eq-READ_REQUEST.false
 pub returns : goal.returns
 unfolding open_for ◌or◌
 returns c =
-    let c4 = c in
-    let c5 = c4 in
-    rw (ne_eqb _ 12 c.if-c-eq-READ_REQUEST.false, ne_eqb _ 19 c.if-c-eq-WRITE_REQUEST.false, c4.writing-writes.ensures, c5.reading-reads.ensures)
+    rw (ne_eqb _ 12 c.if-c-eq-READ_REQUEST.false, ne_eqb _ 19 c.if-c-eq-WRITE_REQUEST.false, c.writing-writes.ensures, c.reading-reads.ensures)

@@ -23,7 +23,6 @@ returns-then-number-ne0 c =
 
 pub returns : goal.returns
 returns c =
-    let first = c in
-    let a = first.args in
-    let n = asked_of (action_of a.c.request) a.v a.c _ _ first.runs_of.ensures first.process_number-number.ensures in
+    let a = c.args in
+    let n = asked_of (action_of a.c.request) a.v a.c _ _ c.runs_of.ensures c.process_number-number.ensures in
     outcome_later a.v a.c _ _ _ c.request_of-q.ensures n c.if-number-ne0.false c.outcome_later.ensures

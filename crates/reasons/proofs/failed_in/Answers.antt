@@ -6,6 +6,4 @@ use Rattle.reasons.proofs.failed_in.Goals as goal
 pub returns : goal.returns
 unfolding category_unset category_failed data_type_failed failed_in ◌and◌ ◌or◌
 returns c =
-    let c5 = c in
-    let c11 = c5 in
-    rw (c.flag_failed.ensures, c5.alters.ensures, c5.class_in.ensures, c11.needs_object-target.ensures, c11.mac_failed-m.ensures)
+    rw (c.flag_failed.ensures, c.alters.ensures, c.class_in.ensures, c.needs_object-target.ensures, c.mac_failed-m.ensures)

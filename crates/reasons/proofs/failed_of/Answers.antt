@@ -5,7 +5,6 @@ use Rattle.reasons.proofs.failed_of.Goals as goal
 
 pub returns : goal.returns
 returns c =
-    let c2 = c in
-    let v = c2.view_of-v.ensures in
-    let a = c2.args in
-    failed_found a.f a.c _ _ _ _ v (enforced_outcome a.f a.c _ _ c2.outcome_in-o.ensures v) c.number.ensures c.failed_by.ensures
+    let v = c.view_of-v.ensures in
+    let a = c.args in
+    failed_found a.f a.c _ _ _ _ v (enforced_outcome a.f a.c _ _ c.outcome_in-o.ensures v) c.number.ensures c.failed_by.ensures

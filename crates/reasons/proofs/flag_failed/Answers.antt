@@ -6,8 +6,7 @@ use Rattle.reasons.proofs.flag_failed.Goals as goal
 pub returns-then-v-target : goal.returns-then-v-target
 unfolding flag_failed ◌and◌
 returns-then-v-target c =
-    let c2 = c in
-    rw (c.forbidding.ensures, c.class_in.ensures, ← c2.needs_object-target.ensures, c2.if-v-target.true)
+    rw (c.forbidding.ensures, c.class_in.ensures, ← c.needs_object-target.ensures, c.if-v-target.true)
 
 pub returns : goal.returns
 unfolding flag_failed ◌and◌

@@ -10,17 +10,15 @@ returns-then-v-ne1 c = rw (c.nothing_of_mac.ensures, ne_eqb _ 1 c.if-v-ne1.true)
 pub returns-then-needs_object : goal.returns-then-needs_object
 unfolding mac_failed
 returns-then-needs_object c =
-    let c3 = c in
     rw (
       c.object_failed.ensures,
       c.class_in.ensures,
-      eq-eqb _ 1 c3.if-v-ne1.false,
-      ← c3.needs_object.ensures,
+      eq-eqb _ 1 c.if-v-ne1.false,
+      ← c.needs_object.ensures,
       c.if-needs_object.true,
     )
 
 pub returns : goal.returns
 unfolding mac_failed
 returns c =
-    let c2 = c in
-    rw (c.alone_failed.ensures, eq-eqb _ 1 c2.if-v-ne1.false, ← c2.needs_object.ensures, c.if-needs_object.false)
+    rw (c.alone_failed.ensures, eq-eqb _ 1 c.if-v-ne1.false, ← c.needs_object.ensures, c.if-needs_object.false)

@@ -5,5 +5,4 @@ use Rattle.reasons.proofs.set_failed.Goals as goal
 pub returns : goal.returns
 unfolding set_failed
 returns c =
-    let c2 = c in
-    rw (c.unless.ensures, c.at_most-cleared.ensures, c2.at_most-under.ensures, c2.at_most-over.ensures)
+    rw (c.unless.ensures, c.at_most-cleared.ensures, c.at_most-under.ensures, c.at_most-over.ensures)

@@ -6,10 +6,9 @@ use Rattle.requests.proofs.request_of.Goals as goal
 
 pub returns : goal.returns
 returns c =
-    let action = c in
-    let e = action.args.extra in
+    let e = c.args.extra in
     λ i. record {
-      action = action.action_of-action.ensures i;
-      object = (c.needs_object-object.ensures ∙ ap (λ (k : Action). needs_object k e) action.action_of-action.ensures) i;
+      action = c.action_of-action.ensures i;
+      object = (c.needs_object-object.ensures ∙ ap (λ (k : Action). needs_object k e) c.action_of-action.ensures) i;
       class = c.class_of-class.ensures i;
     }

@@ -141,7 +141,8 @@ denials_told = refl
 
 -- all denials of a history, and the numbers that its accepted creates give: not those of a refused one, nor of another request
 pub histories_counted :
-    denials_in (outcomes office signalled) ∷ numbers_given office (call 21 0 0 1 ∷ call 4 0 0 2 ∷ call 4 1 0 2 ∷ call 13 0 1 0 ∷ call 4 0 9 0 ∷ call 4 0 0 3 ∷ [])
+    denials_in (outcomes office signalled) ∷ numbers_given office (call 21 0 0 1 ∷ call 4 0 0 2 ∷ call 4 1 0 2 ∷ call 13 0 1 0
+    ∷ call 4 0 9 0 ∷ call 4 0 0 3 ∷ [])
     ≡ 5 ∷ up_from 2 2
 unfolding everything denials_in numbers_given up_from
 histories_counted = refl

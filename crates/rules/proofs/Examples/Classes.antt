@@ -14,7 +14,8 @@ use Rattle.rules.specs.Requests.{file_kind, directory_kind, channel_kind, contro
 pub in_order :
     (alter_request ∷ change_owner_request ∷ clone_request ∷ close_request ∷ create_request ∷ delete_request ∷ delete_data_request ∷ execute_request
     ∷ get_permissions_data_request ∷ get_status_data_request ∷ modify_access_data_request ∷ modify_permissions_data_request ∷ read_request ∷ read_open_request
-    ∷ read_write_open_request ∷ search_request ∷ send_signal_request ∷ set_level_request ∷ terminate_request ∷ write_request ∷ write_open_request ∷ login_request ∷ [])
+    ∷ read_write_open_request ∷ search_request ∷ send_signal_request ∷ set_level_request ∷ terminate_request
+    ∷ write_request ∷ write_open_request ∷ login_request ∷ [])
     ∷ (file_kind ∷ directory_kind ∷ channel_kind ∷ control_data_kind ∷ [])
     ∷ []
     ≡ numbers_below 22 ∷ numbers_below 4 ∷ []

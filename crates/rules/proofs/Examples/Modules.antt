@@ -94,7 +94,8 @@ reads = refl
 -- "W: granted if L = current, or automatic and read mark ≤ L ≤ write mark and L ≤ clr"
 pub writes :
     -- L = current: nothing else is asked
-    (may_write (level 2) (process 2 9 0 0) (level 0) ∷ may_write (level 1) (process 2 0 15 0) (level 15) ∷ may_write (level 3) (process 2 0 15 0) (level 15) ∷ [])
+    (may_write (level 2) (process 2 9 0 0) (level 0) ∷ may_write (level 1) (process 2 0 15 0) (level 15)
+    ∷ may_write (level 3) (process 2 0 15 0) (level 15) ∷ [])
     -- automatic, up and down
     ∷ (may_write (level 3) (process 2 0 15 1) (level 15) ∷ may_write (level 1) (process 2 0 15 1) (level 15) ∷ [])
     -- read mark ≤ L

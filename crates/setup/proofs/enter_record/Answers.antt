@@ -6,29 +6,21 @@ use Rattle.setup.proofs.enter_record.Goals as goal
 
 pub returns-then-r-eq-SWITCHES_RECORD : goal.returns-then-r-eq-SWITCHES_RECORD
 returns-then-r-eq-SWITCHES_RECORD c =
-    let t = c in
-    let a = t.args in
-    c.blank.ensures ∙ ap blank c.switches_entered.ensures ∙ switches_entered_law a.f a.r t.if-r-eq-SWITCHES_RECORD.true
+    let a = c.args in
+    c.blank.ensures ∙ ap blank c.switches_entered.ensures ∙ switches_entered_law a.f a.r c.if-r-eq-SWITCHES_RECORD.true
 
 pub returns-then-r-eq-USER_RECORD : goal.returns-then-r-eq-USER_RECORD
 returns-then-r-eq-USER_RECORD c =
-    let t = c in
-    let u = t in
-    let a = u.args in
-    c.with_user.ensures ∙ ap (add_user a.f) c.user_entered.ensures ∙ user_entered_law a.f a.r u.if-r-eq-SWITCHES_RECORD.false t.if-r-eq-USER_RECORD.true
+    let a = c.args in
+    c.with_user.ensures ∙ ap (add_user a.f) c.user_entered.ensures ∙ user_entered_law a.f a.r c.if-r-eq-SWITCHES_RECORD.false c.if-r-eq-USER_RECORD.true
 
 pub returns-then-r-eq-OBJECT_RECORD : goal.returns-then-r-eq-OBJECT_RECORD
 returns-then-r-eq-OBJECT_RECORD c =
-    let t = c in
-    let u = t in
-    let v = u in
-    let a = v.args in
+    let a = c.args in
     c.with_object.ensures ∙ ap (add_object a.f) c.object_entered.ensures
-    ∙ object_entered_law a.f a.r v.if-r-eq-SWITCHES_RECORD.false u.if-r-eq-USER_RECORD.false t.if-r-eq-OBJECT_RECORD.true
+    ∙ object_entered_law a.f a.r c.if-r-eq-SWITCHES_RECORD.false c.if-r-eq-USER_RECORD.false c.if-r-eq-OBJECT_RECORD.true
 
 pub returns : goal.returns
 returns c =
-    let u = c in
-    let v = u in
-    let a = v.args in
-    none_entered a.f a.r v.if-r-eq-SWITCHES_RECORD.false u.if-r-eq-USER_RECORD.false c.if-r-eq-OBJECT_RECORD.false
+    let a = c.args in
+    none_entered a.f a.r c.if-r-eq-SWITCHES_RECORD.false c.if-r-eq-USER_RECORD.false c.if-r-eq-OBJECT_RECORD.false

@@ -17,12 +17,10 @@ module _ (p : Progress) (kind n : ℕ) (d : Kind) (e : d ≡ kind_of kind) (q : 
 
 pub returns-then-count-d : goal.returns-then-count-d
 returns-then-count-d c =
-    let count = c in
-    let a = count.args in
-    one_more a.before a.kind _ _ count.kind_of-d.ensures count.count_of-count.ensures c.if-count-d.true
+    let a = c.args in
+    one_more a.before a.kind _ _ c.kind_of-d.ensures c.count_of-count.ensures c.if-count-d.true
 
 pub returns : goal.returns
 returns c =
-    let count = c in
-    let a = count.args in
-    no_more a.before a.kind _ _ count.kind_of-d.ensures count.count_of-count.ensures (search (rules, c.if-count-d.false))
+    let a = c.args in
+    no_more a.before a.kind _ _ c.kind_of-d.ensures c.count_of-count.ensures (search (rules, c.if-count-d.false))

@@ -18,32 +18,28 @@ loop-k-init c =
 
 pub returns-then-number-ne0 : goal.returns-then-number-ne0
 returns-then-number-ne0 c =
-    let number = c in
-    let this = number in
-    let l = this.loop-k in
-    let a = this.args in
+    let l = c.loop-k in
+    let a = c.args in
     let e : c.record_number-number.result ≡ number_by l.before l.f c.record_of-r.result
     = c.record_number-number.ensures ∙ ap (λ (b : Bool). number_after l.before b c.record_of-r.result) c.parent_fits-fit.ensures in
     c.refused.ensures ∙ ap (λ (n : ℕ). refused_setup n l.k) e
-    ∙ stops a.s.now a.count l.k l.f l.before _ this.loop-k-test.true l.invariant.1
-    (this.record_of-r.ensures ∙ record_lent a.s.now (l.k * 8)) (λ z. c.if-number-ne0.true (e ∙ z))
+    ∙ stops a.s.now a.count l.k l.f l.before _ c.loop-k-test.true l.invariant.1
+    (c.record_of-r.ensures ∙ record_lent a.s.now (l.k * 8)) (λ z. c.if-number-ne0.true (e ∙ z))
 
 pub loop-k-smaller : goal.loop-k-smaller
 loop-k-smaller c = omega (arith, c.loop-k-test.true)
 
 pub loop-k-preserved : goal.loop-k-preserved
 loop-k-preserved c =
-    let number = c in
-    let this = number in
-    let l = this.loop-k in
-    let a = this.args in
+    let l = c.loop-k in
+    let a = c.args in
     let e : c.record_number-number.result ≡ number_by l.before l.f c.record_of-r.result
     = c.record_number-number.ensures ∙ ap (λ (b : Bool). number_after l.before b c.record_of-r.result) c.parent_fits-fit.ensures in
     let z = sym e ∙ c.if-number-ne0.false in (
       search rules,
       subst₂ (At a.s.now a.count (l.k + 1)) (sym c.enter_record-f.ensures) (sym c.progress_after-before.ensures)
-          (goes_on a.s.now a.count l.k l.f l.before _ this.loop-k-test.true l.invariant.1
-          (this.record_of-r.ensures ∙ record_lent a.s.now (l.k * 8)) z),
+          (goes_on a.s.now a.count l.k l.f l.before _ c.loop-k-test.true l.invariant.1
+          (c.record_of-r.ensures ∙ record_lent a.s.now (l.k * 8)) z),
     )
 
 pub returns : goal.returns

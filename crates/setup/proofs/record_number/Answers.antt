@@ -5,16 +5,14 @@ use Rattle.setup.proofs.record_number.Goals as goal
 pub returns : goal.returns
 unfolding number_after
 returns c =
-    let c4 = c in
-    let c6 = c4 in
-    let d = c6.kind_of-d.ensures in
+    let d = c.kind_of-d.ensures in
     rw (
       c.ask-4.ensures,
       c.ask-3.ensures,
       c.ask-2.ensures,
       c.ask.ensures,
-      c4.allowed_by-allowed.ensures,
-      c6.count_of.ensures,
-      c6.fits-fits.ensures,
+      c.allowed_by-allowed.ensures,
+      c.count_of.ensures,
+      c.fits-fits.ensures,
       d,
     )

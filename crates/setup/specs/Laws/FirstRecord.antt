@@ -67,7 +67,8 @@ first_kept s p K = none_kept p K
 pub from_begins : (s : List ℕ) (n : ℕ) (f : Facility) (p : Progress) → p ≡ none_before → From s n 0 f p
 from_begins s n f p e = begins s n (blank all_off) p refl e
 
-module _ (s : List ℕ) (n k : ℕ) (f : Facility) (p : Progress) (r : SetupRecord) (h : k < n) (A : From s n k f p) (this : r ≡ first_record (drop (k * 8) s)) where
+module _ (s : List ℕ) (n k : ℕ) (f : Facility) (p : Progress) (r : SetupRecord) (h : k < n) (A : From s n k f p)
+    (this : r ≡ first_record (drop (k * 8) s)) where
   kept_first : k ≡ 0 → p.kind ≡ 0
   kept_first e = first_kept s p (subst (λ (j : ℕ). Kept p (past_of s j)) e A.kept)
 

@@ -7,38 +7,30 @@ use Rattle.setup_in_place.proofs.enter_record_in.Goals as goal
 
 pub returns-then-r-eq-SWITCHES_RECORD : goal.returns-then-r-eq-SWITCHES_RECORD
 returns-then-r-eq-SWITCHES_RECORD c =
-    let t = c in
-    let a = t.args in
+    let a = c.args in
     let f = facility_at a.s.now in (
-      c.blank_in.ensures.0 ∙ ap blank c.switches_entered.ensures ∙ switches_entered_law f a.r t.if-r-eq-SWITCHES_RECORD.true,
+      c.blank_in.ensures.0 ∙ ap blank c.switches_entered.ensures ∙ switches_entered_law f a.r c.if-r-eq-SWITCHES_RECORD.true,
       c.blank_in.ensures.1,
     )
 
 pub returns-then-r-eq-USER_RECORD : goal.returns-then-r-eq-USER_RECORD
 returns-then-r-eq-USER_RECORD c =
-    let t = c in
-    let u = t in
-    let a = u.args in
+    let a = c.args in
     let f = facility_at a.s.now in (
-      c.add_user_in.ensures.0 ∙ ap (add_user f) c.user_entered.ensures ∙ user_entered_law f a.r u.if-r-eq-SWITCHES_RECORD.false t.if-r-eq-USER_RECORD.true,
+      c.add_user_in.ensures.0 ∙ ap (add_user f) c.user_entered.ensures ∙ user_entered_law f a.r c.if-r-eq-SWITCHES_RECORD.false c.if-r-eq-USER_RECORD.true,
       c.add_user_in.ensures.1,
     )
 
 pub returns-then-r-eq-OBJECT_RECORD : goal.returns-then-r-eq-OBJECT_RECORD
 returns-then-r-eq-OBJECT_RECORD c =
-    let t = c in
-    let u = t in
-    let v = u in
-    let a = v.args in
+    let a = c.args in
     let f = facility_at a.s.now in (
       c.add_object_in.ensures.0 ∙ ap (add_object f) c.object_entered.ensures
-          ∙ object_entered_law f a.r v.if-r-eq-SWITCHES_RECORD.false u.if-r-eq-USER_RECORD.false t.if-r-eq-OBJECT_RECORD.true,
+          ∙ object_entered_law f a.r c.if-r-eq-SWITCHES_RECORD.false c.if-r-eq-USER_RECORD.false c.if-r-eq-OBJECT_RECORD.true,
       c.add_object_in.ensures.1,
     )
 
 pub returns-else-r-eq-OBJECT_RECORD : goal.returns-else-r-eq-OBJECT_RECORD
 returns-else-r-eq-OBJECT_RECORD c =
-    let u = c in
-    let v = u in
-    let a = v.args in
-    (none_entered (facility_at a.s.now) a.r v.if-r-eq-SWITCHES_RECORD.false u.if-r-eq-USER_RECORD.false c.if-r-eq-OBJECT_RECORD.false, refl)
+    let a = c.args in
+    (none_entered (facility_at a.s.now) a.r c.if-r-eq-SWITCHES_RECORD.false c.if-r-eq-USER_RECORD.false c.if-r-eq-OBJECT_RECORD.false, refl)

@@ -6,23 +6,20 @@ use Rattle.setup_in_place.proofs.read_in.Goals as goal
 
 pub returns-then-not-allowed_length : goal.returns-then-not-allowed_length
 returns-then-not-allowed_length c =
-    let t = c in
-    let a = t.args in
+    let a = c.args in
     let r = c.refused_in.ensures in
     let q =
-    as_read a.s.now _ _ _ _ (refused_length_law _ (sym t.allowed_length.ensures ∙ t.if-not-allowed_length.true)) r.value r.becomes in
+    as_read a.s.now _ _ _ _ (refused_length_law _ (sym c.allowed_length.ensures ∙ c.if-not-allowed_length.true)) r.value r.becomes in
     record { value = q.0; becomes = q.1 }
 
 pub read_records_in-requires : goal.read_records_in-requires
 read_records_in-requires c =
-    let t = c in
-    some_records _ (sym t.allowed_length.ensures ∙ t.if-not-allowed_length.false)
+    some_records _ (sym c.allowed_length.ensures ∙ c.if-not-allowed_length.false)
 
 pub returns : goal.returns
 returns c =
-    let t = c in
-    let a = t.args in
+    let a = c.args in
     let r = c.read_records_in.ensures in
     let q =
-    as_read a.s.now _ _ _ _ (allowed_records _ (sym t.allowed_length.ensures ∙ t.if-not-allowed_length.false)) r.value r.becomes in
+    as_read a.s.now _ _ _ _ (allowed_records _ (sym c.allowed_length.ensures ∙ c.if-not-allowed_length.false)) r.value r.becomes in
     record { value = q.0; becomes = q.1 }

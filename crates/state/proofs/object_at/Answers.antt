@@ -5,12 +5,10 @@ use Rattle.state.proofs.object_at.Goals as goal
 pub returns : goal.returns
 unfolding object_in
 returns c =
-    let c4 = c in
-    let c5 = c4 in
     λ i. record {
-      live = c5.at.ensures i;
-      kind = c4.at-2.ensures i;
-      label = c5.label_at-label.ensures i;
+      live = c.at.ensures i;
+      kind = c.at-2.ensures i;
+      label = c.label_at-label.ensures i;
       category = c.at-3.ensures i;
       datatype = c.at-4.ensures i;
       flags = c.at-5.ensures i;

@@ -7,8 +7,6 @@ use Rattle.text.proofs.put_decimal.Goals as goal
 
 pub returns : goal.returns
 returns c =
-    let c5 = c in
-    let c8 = c5 in
-    let a = c8.args in
-    let d = c5.decimal-k.ensures in
+    let a = c.args in
+    let d = c.decimal-k.ensures in
     as_text a.out.now _ _ (decimal a.n) a.place _ (d.digits ∙ fewest _ a.n d.len) c.put_text.ensures

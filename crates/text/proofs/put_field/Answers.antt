@@ -6,8 +6,6 @@ use Rattle.text.proofs.put_field.Goals as goal
 
 pub returns : goal.returns
 returns c =
-    let c7 = c in
-    let c10 = c7 in
-    let a = c10.args in
-    then a.out.now _ _ a.place _ _ (decimal a.n) (32 ∷ []) c7.put_decimal-next.ensures
+    let a = c.args in
+    then a.out.now _ _ a.place _ _ (decimal a.n) (32 ∷ []) c.put_decimal-next.ensures
     c.put_text.ensures

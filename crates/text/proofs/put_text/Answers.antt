@@ -18,9 +18,8 @@ loop-j-init c =
 
 pub loop-j-preserved : goal.loop-j-preserved
 loop-j-preserved c =
-    let c7 = c in
     let l = c.loop-j in
-    let a = c7.args in (
+    let a = c.args in (
       search rules,
       length-set l.out (a.place + l.j) _ ∙ l.invariant.1,
       store_more a.out.now l.out a.text.now a.place l.j (search rules) l.invariant.2,
@@ -28,9 +27,8 @@ loop-j-preserved c =
 
 pub returns : goal.returns
 returns c =
-    let c6 = c in
     let l = c.loop-j in
-    let a = c6.args in
+    let a = c.args in
     let e : l.j ≡ c.least-n.result = search rules in
     let s = store_done a.out.now l.out a.text.now a.place l.j (search rules) (e ∙ c.least-n.ensures) l.invariant.1 l.invariant.2 in
     (s.0, ap (λ (k : ℕ). a.place + k) (sym e) ∙ s.1)

@@ -10,15 +10,11 @@ use Rattle.words.proofs.put_count.Goals as goal
 
 pub returns-then-is_denial : goal.returns-then-is_denial
 returns-then-is_denial c =
-    let c5 = c in
-    let c7 = c5 in
-    let a = c7.args in
-    rw (ap denies (sym c7.number.ensures) ∙ sym c5.is_denial.ensures ∙ c5.if-is_denial.true)
+    let a = c.args in
+    rw (ap denies (sym c.number.ensures) ∙ sym c.is_denial.ensures ∙ c.if-is_denial.true)
     (stores a.out.now a.place (filled (ascii "; refusals of user #: ") (a.u ∷ [])) (decimal a.n ∷ [])
     (c.put_one-p.ensures ▸ c.put_decimal.ensures ▸ end))
 
 pub returns : goal.returns
 returns c =
-    let c3 = c in
-    let c5 = c3 in
-    rw (ap denies (sym c5.number.ensures) ∙ sym c3.is_denial.ensures ∙ c3.if-is_denial.false) c.put_nothing.ensures
+    rw (ap denies (sym c.number.ensures) ∙ sym c.is_denial.ensures ∙ c.if-is_denial.false) c.put_nothing.ensures

@@ -16,16 +16,14 @@ loop-j-init c =
 
 pub overflow_add-i : goal.overflow_add-i
 overflow_add-i c =
-    let c6 = c in
-    let a = c6.args in
-    omega (arith, c.signs-i.ensures, at_most_one (get_or a.pattern.now c6.loop-j.j 0))
+    let a = c.args in
+    omega (arith, c.signs-i.ensures, at_most_one (get_or a.pattern.now c.loop-j.j 0))
 
 pub loop-j-preserved : goal.loop-j-preserved
 loop-j-preserved c =
     let n = c.at-n in
-    let c6 = c in
-    let l = c6.loop-j in
-    let a = c6.args in
+    let l = c.loop-j in
+    let a = c.args in
     let s = c.put_said-p.ensures in
     let x = get_or a.pattern.now l.j 0 in
     let h : l.j < length a.pattern.now = search rules in (

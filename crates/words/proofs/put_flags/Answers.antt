@@ -8,11 +8,7 @@ use Rattle.words.proofs.put_flags.Goals as goal
 pub returns : goal.returns
 unfolding flags_text
 returns c =
-    let c4 = c in
-    let c3 = c4 in
-    let c2 = c3 in
-    let c1 = c2 in
-    let a = c1.args in
+    let a = c.args in
     stores a.out.now a.place (flag_text read_only a.v)
     (flag_text no_execute a.v ∷ flag_text no_delete a.v ∷ flag_text search_only a.v ∷ flag_text add_inherited a.v ∷ [])
-    (c1.put_flag-p.ensures ▸ c2.put_flag-p-2.ensures ▸ c3.put_flag-p-3.ensures ▸ c4.put_flag-p-4.ensures ▸ c.put_flag.ensures ▸ end)
+    (c.put_flag-p.ensures ▸ c.put_flag-p-2.ensures ▸ c.put_flag-p-3.ensures ▸ c.put_flag-p-4.ensures ▸ c.put_flag.ensures ▸ end)

@@ -10,17 +10,12 @@ use Rattle.words.proofs.put_later.Goals as goal
 pub returns-then-is_send_signal-is_clone : goal.returns-then-is_send_signal-is_clone
 unfolding ◌or◌
 returns-then-is_send_signal-is_clone c =
-    let c5 = c in
-    let clone = c5 in
-    let signal = clone in
-    let a = signal.args in
-    rw (← clone.is_clone.ensures, ← signal.is_send_signal.ensures, c5.if-is_send_signal-is_clone.true)
+    let a = c.args in
+    rw (← c.is_clone.ensures, ← c.is_send_signal.ensures, c.if-is_send_signal-is_clone.true)
     (stores a.out.now a.place (filled (ascii "; process # then ") (a.c.target ∷ [])) (process_text a.r a.u ∷ [])
     (c.put_one-p.ensures ▸ c.put_process.ensures ▸ end))
 
 pub returns : goal.returns
 unfolding ◌or◌
 returns c =
-    let c3 = c in
-    let clone = c3 in
-    rw (← clone.is_clone.ensures, ← clone.is_send_signal.ensures, c3.if-is_send_signal-is_clone.false) c.put_nothing.ensures
+    rw (← c.is_clone.ensures, ← c.is_send_signal.ensures, c.if-is_send_signal-is_clone.false) c.put_nothing.ensures

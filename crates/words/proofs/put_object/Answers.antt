@@ -9,13 +9,10 @@ use Rattle.words.proofs.put_object.Goals as goal
 
 pub returns-then-o-eq1 : goal.returns-then-o-eq1
 returns-then-o-eq1 c =
-    let c3 = c in
-    let c5 = c3 in
-    let c9 = c5 in
-    let a = c9.args in
+    let a = c.args in
     let o = a.o in
-    rw (eq-eqb _ 1 c9.if-o-eq1.true)
+    rw (eq-eqb _ 1 c.if-o-eq1.true)
     (stores a.out.now a.place
     (filled (ascii " object # (%, level $*, category =, data type ?")
     (a.t ∷ o.kind ∷ o.label.level ∷ o.label.set ∷ o.category ∷ o.datatype ∷ []))
-    (flags_text a.flags ∷ ascii ")" ∷ []) (c5.put_filled-p.ensures ▸ c3.put_flags-p.ensures ▸ c.put_text.ensures ▸ end))
+    (flags_text a.flags ∷ ascii ")" ∷ []) (c.put_filled-p.ensures ▸ c.put_flags-p.ensures ▸ c.put_text.ensures ▸ end))

@@ -8,8 +8,6 @@ use Rattle.words.proofs.put_receiver.Goals as goal
 
 pub returns : goal.returns
 returns c =
-    let c3 = c in
-    let c5 = c3 in
-    let a = c5.args in
+    let a = c.args in
     stores a.out.now a.place (filled (ascii " process # (") (a.t ∷ [])) (process_text a.r a.u ∷ ascii ")" ∷ [])
-    (c5.put_one-p.ensures ▸ c3.put_process-p.ensures ▸ c.put_text.ensures ▸ end)
+    (c.put_one-p.ensures ▸ c.put_process-p.ensures ▸ c.put_text.ensures ▸ end)

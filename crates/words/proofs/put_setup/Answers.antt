@@ -23,9 +23,8 @@ of-record n i d = rw (ne_eqb n refused_length d)
 
 pub returns-then-number-eq-REFUSED_LENGTH : goal.returns-then-number-eq-REFUSED_LENGTH
 returns-then-number-eq-REFUSED_LENGTH c =
-    let c4 = c in
-    let a = c4.args in
-    let s = as_text a.out.now _ _ _ 0 _ (of_length a.number a.index c4.if-number-eq-REFUSED_LENGTH.true) c.put_filled.ensures in
+    let a = c.args in
+    let s = as_text a.out.now _ _ _ 0 _ (of_length a.number a.index c.if-number-eq-REFUSED_LENGTH.true) c.put_filled.ensures in
     record {
       stored = s;
       prefix_len = counts a.out.now _ (setup_sentence a.number a.index) 0 _ s;
@@ -33,14 +32,11 @@ returns-then-number-eq-REFUSED_LENGTH c =
 
 pub returns : goal.returns
 returns c =
-    let c4 = c in
-    let c6 = c4 in
-    let c9 = c6 in
-    let a = c9.args in
-    let s = as_text a.out.now _ _ _ 0 _ (of-record a.number a.index c9.if-number-eq-REFUSED_LENGTH.false)
+    let a = c.args in
+    let s = as_text a.out.now _ _ _ 0 _ (of-record a.number a.index c.if-number-eq-REFUSED_LENGTH.false)
     (stores a.out.now 0 (ascii "set-up refused at record ")
     (decimal a.index ∷ filled (ascii ": # !" ++ (line_feed ∷ [])) (a.number ∷ a.number ∷ []) ∷ [])
-    (c6.put_text-p.ensures ▸ c4.put_decimal-p.ensures ▸ c.put_filled-2.ensures ▸ end)) in
+    (c.put_text-p.ensures ▸ c.put_decimal-p.ensures ▸ c.put_filled-2.ensures ▸ end)) in
     record {
       stored = s;
       prefix_len = counts a.out.now _ (setup_sentence a.number a.index) 0 _ s;

@@ -5,6 +5,5 @@ use Rattle.words.proofs.reason_at.Goals as goal
 
 pub returns : goal.returns
 returns c =
-    let failed = c in
-    let a = failed.args in
-    reason_found (facility_at a.s.now) a.n a.v a.c _ _ failed.failed_by-failed.ensures c.source_of-source.ensures
+    let a = c.args in
+    reason_found (facility_at a.s.now) a.n a.v a.c _ _ c.failed_by-failed.ensures c.source_of-source.ensures

@@ -7,7 +7,6 @@ use Rattle.words.proofs.reason_in.Goals as goal
 
 pub returns : goal.returns
 returns c =
-    let failed = c in
-    let a = failed.args in
-    reason_found a.f a.n a.v a.c _ _ failed.failed_by-failed.ensures
-    (c.source_at-source.ensures ∙ source_lists (objects_in a.f) a.c.target failed.failed_by-failed.result.flag)
+    let a = c.args in
+    reason_found a.f a.n a.v a.c _ _ c.failed_by-failed.ensures
+    (c.source_at-source.ensures ∙ source_lists (objects_in a.f) a.c.target c.failed_by-failed.result.flag)

@@ -8,13 +8,11 @@ use Rattle.words.proofs.tell_short.Goals as goal
 
 pub returns : goal.returns
 returns c =
-    let telling = c in
-    let enforced = telling in
-    let a = enforced.args in
-    let e = enforced.enforce-e.ensures in
+    let a = c.args in
+    let e = c.enforce-e.ensures in
     let g = ap (λ (x : Enforced). x.facility) e in
     let q = ap (λ (x : Enforced). x.outcome) e in
-    let h = told_enforced a.index a.f _ _ a.c _ telling.told_of-t.ensures g q in
+    let h = told_enforced a.index a.f _ _ a.c _ c.told_of-t.ensures g q in
     record {
       value = g;
       stored = as_text a.out.now _ _ (short_sentence a.index a.f a.c) a.place.now _ (ap short_text h) c.put_short.ensures;

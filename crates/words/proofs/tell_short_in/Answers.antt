@@ -7,9 +7,8 @@ use Rattle.words.proofs.tell_short_in.Goals as goal
 
 pub returns : goal.returns
 returns c =
-    let told = c in
-    let a = told.args in
-    let e = told.told_in.ensures in
+    let a = c.args in
+    let e = c.told_in.ensures in
     let t = short_sentence a.index (facility_at a.s.now) a.c in
     record {
       stored = as_text a.out.now _ _ t a.place _ (ap short_text e.value) c.put_short.ensures;

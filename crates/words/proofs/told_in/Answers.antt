@@ -5,16 +5,9 @@ use Rattle.words.proofs.told_in.Goals as goal
 
 pub returns : goal.returns
 returns c =
-    let count = c in
-    let later = count in
-    let enforced = later in
-    let reason = enforced in
-    let number = reason in
-    let foretold = number in
-    let before = foretold in
-    let a = before.args in
-    let e = enforced.enforce_in-outcome.ensures in record {
-      value = told_found a.index (facility_at a.s.now) _ a.c _ _ _ _ _ _ _ before.view_of-before.ensures foretold.query_in-foretold.ensures
-          number.number.ensures reason.reason_at-reason.ensures e.value e.becomes.0 later.view_of-later.ensures count.counter_of-count.ensures;
+    let a = c.args in
+    let e = c.enforce_in-outcome.ensures in record {
+      value = told_found a.index (facility_at a.s.now) _ a.c _ _ _ _ _ _ _ c.view_of-before.ensures c.query_in-foretold.ensures
+          c.number.ensures c.reason_at-reason.ensures e.value e.becomes.0 c.view_of-later.ensures c.counter_of-count.ensures;
       becomes = e.becomes;
     }

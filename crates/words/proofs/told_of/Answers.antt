@@ -4,10 +4,6 @@ use Rattle.words.proofs.told_of.Goals as goal
 
 pub returns : goal.returns
 returns c =
-    let later = c in
-    let reason = later in
-    let number = reason in
-    let before = number in
-    let a = before.args in
-    parts_found a.index a.f a.g a.c _ _ _ a.o _ _ before.view_of-before.ensures number.number.ensures reason.reason_in-reason.ensures
-    later.view_of-later.ensures c.count_of-count.ensures
+    let a = c.args in
+    parts_found a.index a.f a.g a.c _ _ _ a.o _ _ c.view_of-before.ensures c.number.ensures c.reason_in-reason.ensures
+    c.view_of-later.ensures c.count_of-count.ensures

@@ -15,9 +15,8 @@ loop-k-init c = (search rules, number_begins c.args.lives.now)
 pub overflow_add-n : goal.overflow_add-n
 overflow_add-n c =
     let l = c.loop-k in
-    let b = c in
-    let h = new_most (lives_only b.args.lives.now) l.k in
-    omega (arith, l.invariant.1, c.loop-k-test.true, b.ranges)
+    let h = new_most (lives_only c.args.lives.now) l.k in
+    omega (arith, l.invariant.1, c.loop-k-test.true, c.ranges)
 
 pub loop-k-preserved : goal.loop-k-preserved
 loop-k-preserved c =

@@ -18,10 +18,9 @@ returns-then-at-ne1 c =
 
 pub overflow_add-result : goal.overflow_add-result
 overflow_add-result c =
-    let b = c in
-    let a = b.args in
+    let a = c.args in
     let h = new_most (lives_only a.lives.now) (a.parent - 1) in
-    omega (arith, c.new_number.ensures, c.if-parent-eq0.false, b.ranges)
+    omega (arith, c.new_number.ensures, c.if-parent-eq0.false, c.ranges)
 
 pub returns : goal.returns
 returns c =

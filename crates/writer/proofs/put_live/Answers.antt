@@ -9,12 +9,10 @@ use Rattle.writer.proofs.put_live.Goals as goal
 
 pub returns-then-o-eq1 : goal.returns-then-o-eq1
 returns-then-o-eq1 c =
-    let p = c in
-    let b = p in
-    let a = b.args in
-    let e = b.object_record-r.ensures ∙ ap object_record b.renumbered.ensures in
-    live_stored a.out.now a.place (lives_only a.lives.now) a.o _ _ b.if-o-eq1.true
-    (subst (λ (r : SetupRecord). Stored a.out.now a.place (r ∷ []) p.put_record.new.out p.put_record.result) e p.put_record.ensures)
+    let a = c.args in
+    let e = c.object_record-r.ensures ∙ ap object_record c.renumbered.ensures in
+    live_stored a.out.now a.place (lives_only a.lives.now) a.o _ _ c.if-o-eq1.true
+    (subst (λ (r : SetupRecord). Stored a.out.now a.place (r ∷ []) c.put_record.new.out c.put_record.result) e c.put_record.ensures)
 
 pub returns : goal.returns
 returns c =

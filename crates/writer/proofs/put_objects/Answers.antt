@@ -13,21 +13,17 @@ loop-k-init c = section_begins
 
 pub put_live-place-requires : goal.put_live-place-requires
 put_live-place-requires c =
-    let c3 = c in
-    let b = c3 in
-    section_place c3.loop-k.invariant b.requires (search (rules, b.ranges))
+    section_place c.loop-k.invariant c.requires (search (rules, c.ranges))
 
 pub loop-k-preserved : goal.loop-k-preserved
 loop-k-preserved c =
-    let p = c in
-    let c3 = p in
-    let l = c3.loop-k in
-    let a = c3.args in
+    let l = c.loop-k in
+    let a = c.args in
     let x = objects_from a.lives.now a.kinds.now a.levels.now a.categories.now a.datatypes.now a.flags.now
     a.parents.now a.sets.now in
-    let e = ap (live_record (lives_only a.lives.now)) p.object_at-o.ensures ∙ record_told x (object_in x l.k) in
-    section_goes_on l.invariant c3.loop-k-test.true
-    (subst (λ (rs : List SetupRecord). Stored l.out l.place rs p.put_live-place.new.out p.put_live-place.result) e p.put_live-place.ensures)
+    let e = ap (live_record (lives_only a.lives.now)) c.object_at-o.ensures ∙ record_told x (object_in x l.k) in
+    section_goes_on l.invariant c.loop-k-test.true
+    (subst (λ (rs : List SetupRecord). Stored l.out l.place rs c.put_live-place.new.out c.put_live-place.result) e c.put_live-place.ensures)
 
 pub shape_of-out : goal.shape_of-out
 shape_of-out c = section_length c.loop-k.invariant

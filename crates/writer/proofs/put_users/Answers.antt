@@ -13,18 +13,14 @@ loop-k-init c = section_begins
 
 pub put_record-place-requires : goal.put_record-place-requires
 put_record-place-requires c =
-    let c4 = c in
-    let b = c4 in
-    section_place c4.loop-k.invariant b.requires (search (rules, b.ranges))
+    section_place c.loop-k.invariant c.requires (search (rules, c.ranges))
 
 pub loop-k-preserved : goal.loop-k-preserved
 loop-k-preserved c =
-    let p = c in
-    let c4 = p in
-    let l = c4.loop-k in
-    let e = p.user_record-r.ensures ∙ ap user_record p.user_at-u.ensures in
-    section_goes_on l.invariant c4.loop-k-test.true
-    (subst (λ (r : SetupRecord). Stored l.out l.place (r ∷ []) p.put_record-place.new.out p.put_record-place.result) e p.put_record-place.ensures)
+    let l = c.loop-k in
+    let e = c.user_record-r.ensures ∙ ap user_record c.user_at-u.ensures in
+    section_goes_on l.invariant c.loop-k-test.true
+    (subst (λ (r : SetupRecord). Stored l.out l.place (r ∷ []) c.put_record-place.new.out c.put_record-place.result) e c.put_record-place.ensures)
 
 pub shape_of-out : goal.shape_of-out
 shape_of-out c = section_length c.loop-k.invariant

@@ -12,12 +12,11 @@ use Rattle.writer.proofs.write_parts.Goals as goal
 
 pub returns-then-out-need : goal.returns-then-out-need
 returns-then-out-need c =
-    let first = c in
-    let p = first.put_sections-need in
+    let p = c.put_sections-need in
     let a = c.args in
     let f = facility_with a.switches a.users (users_from a.clearances.now a.roles.now a.trusts.now a.clearancesets.now) a.entered
     (objects_from a.lives.now a.kinds.now a.levels.now a.categories.now a.datatypes.now a.flags.now a.parents.now a.sets.now) in
-    let o = first.args.out.now in
+    let o = c.args.out.now in
     let e = p.ensures.buffer ∙ put_none 0 (setup_records f) in
     let h : length o < p.result = subst (λ (q : List ℕ). length (q ++ o) < p.result) e c.if-out-need.true in
     let r = no_room f o _ _ p.result p.ensures h in
@@ -26,12 +25,11 @@ returns-then-out-need c =
 pub returns : goal.returns
 returns c =
     let q = c.put_sections-length in
-    let first = c in
-    let p = first.put_sections-need in
+    let p = c.put_sections-need in
     let a = c.args in
     let f = facility_with a.switches a.users (users_from a.clearances.now a.roles.now a.trusts.now a.clearancesets.now) a.entered
     (objects_from a.lives.now a.kinds.now a.levels.now a.categories.now a.datatypes.now a.flags.now a.parents.now a.sets.now) in
-    let o = first.args.out.now in
+    let o = c.args.out.now in
     let e = p.ensures.buffer ∙ put_none 0 (setup_records f) in
     let h : p.result ≤ length o = subst (λ (x : List ℕ). p.result ≤ length (x ++ o)) e c.if-out-need.false in
     let s = subst (λ (x : List ℕ). Stored (x ++ o) 0 (setup_records f) q.new.out q.result) e q.ensures in

@@ -5,7 +5,6 @@ use Rattle.writer.proofs.write_setup.Goals as goal
 pub returns : goal.returns
 returns c =
     let written = c.write_parts in
-    let f = c in
-    let a = f.args in
+    let a = c.args in
     let p = lent_written a.f a.out.now _ _ written.ensures.value written.ensures.out_after in
     record { value = p.0; out_after = p.1 }

@@ -6,9 +6,8 @@ use Rattle.hvozdalka.proofs.refused.failed_at.Goals as goal
 
 pub returns : goal.returns
 returns c =
-    let c3 = c in
-    let a = c3.args in
+    let a = c.args in
     let f = facility_at a.f.now in
-    let v = c3.view_of-v.ensures in
+    let v = c.view_of-v.ensures in
     failed_found f a.c _ _ _ _ v (enforced_outcome f a.c _ _ c.outcome_in-o.ensures v) c.number.ensures
     c.failed_by.ensures

@@ -8,13 +8,10 @@ use Rattle.hvozdalka.proofs.refused.hv_why_words.Goals as goal
 
 pub returns : goal.returns
 returns c =
-    let put = c in
-    let source = put in
-    let failed = source in
-    let call = failed.call_of-call in
-    let a = failed.args in
+    let call = c.call_of-call in
+    let a = c.args in
     rw (← call.ensures)
     (as_text a.out.now _ _ _ 0 _
-    (text_found a.f call.result _ _ failed.failed_of-w.ensures
-    (source.source_at-source.ensures ∙ source_lists (objects_in a.f) call.result.target failed.failed_of-w.result.flag))
-    put.put_failed.ensures)
+    (text_found a.f call.result _ _ c.failed_of-w.ensures
+    (c.source_at-source.ensures ∙ source_lists (objects_in a.f) call.result.target c.failed_of-w.result.flag))
+    c.put_failed.ensures)

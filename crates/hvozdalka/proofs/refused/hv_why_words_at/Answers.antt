@@ -6,12 +6,9 @@ use Rattle.hvozdalka.proofs.refused.hv_why_words_at.Goals as goal
 
 pub returns : goal.returns
 returns c =
-    let put = c in
-    let source = put in
-    let failed = source in
-    let call = failed.call_of-call in
-    let a = failed.args in
+    let call = c.call_of-call in
+    let a = c.args in
     rw (← call.ensures)
     (as_text a.out.now _ _ _ 0 _
-    (text_found (facility_at a.f.now) call.result _ _ failed.failed_at-w.ensures source.source_of-source.ensures)
-    put.put_failed.ensures)
+    (text_found (facility_at a.f.now) call.result _ _ c.failed_at-w.ensures c.source_of-source.ensures)
+    c.put_failed.ensures)

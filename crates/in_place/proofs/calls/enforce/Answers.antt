@@ -22,23 +22,17 @@ view_in-v-requires c =
 
 pub make_by-requires : goal.make_by-requires
 make_by-requires c =
-    let view = c in
-    let known = view in
-    let a = known.args in
-    (search rules, asked_class_in (facility_at a.s.now) a.c _ _ known.request_in-q.ensures view.view_in-v.ensures)
+    let a = c.args in
+    (search rules, asked_class_in (facility_at a.s.now) a.c _ _ c.request_in-q.ensures c.view_in-v.ensures)
 
 pub returns : goal.returns
 returns c =
-    let made = c in
-    let later = made in
-    let known = later in
-    let first = known in
-    let a = first.args in
+    let a = c.args in
     let f = facility_at a.s.now in
-    let v = later.view_in-v.ensures in
-    let b = made.make_by.ensures in
+    let v = c.view_in-v.ensures in
+    let b = c.make_by.ensures in
     let q =
-    query_later f a.c _ _ _ refl first.first_number-number.ensures known.if-number-ne0.false
-    (asked_outcome f a.c _ _ _ known.request_in-q.ensures v later.outcome_later-outcome.ensures) in
-    let e = b.0 ∙ ap (changed f) (asked_change f a.c _ _ v) ∙ enforced_facility f a.c _ _ _ made.number.ensures q refl in
+    query_later f a.c _ _ _ refl c.first_number-number.ensures c.if-number-ne0.false
+    (asked_outcome f a.c _ _ _ c.request_in-q.ensures v c.outcome_later-outcome.ensures) in
+    let e = b.0 ∙ ap (changed f) (asked_change f a.c _ _ v) ∙ enforced_facility f a.c _ _ _ c.number.ensures q refl in
     record { value = q; becomes = (e, b.1) }

@@ -18,9 +18,7 @@ view_in-requires c =
 
 pub returns : goal.returns
 returns c =
-    let known = c in
-    let first = known in
-    let a = first.args in
+    let a = c.args in
     let f = facility_at a.s.now in
-    query_later f a.c _ _ _ refl first.first_number-number.ensures known.if-number-ne0.false
-    (asked_outcome f a.c _ _ _ known.request_in-q.ensures c.view_in.ensures c.outcome_later.ensures)
+    query_later f a.c _ _ _ refl c.first_number-number.ensures c.if-number-ne0.false
+    (asked_outcome f a.c _ _ _ c.request_in-q.ensures c.view_in.ensures c.outcome_later.ensures)

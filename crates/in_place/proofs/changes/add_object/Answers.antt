@@ -7,14 +7,9 @@ use Rattle.in_place.proofs.changes.add_object.Goals as goal
 
 pub returns-then-n-lt-OBJECTS : goal.returns-then-n-lt-OBJECTS
 returns-then-n-lt-OBJECTS c =
-    let c6 = c in
-    let c8 = c6 in
-    let c9 = c8 in
-    let c12 = c9 in
-    let x = c12 in
-    let a = x.args in (
-      added_is a.s.now _ _ a.o _ x.requires c9.byte_in-n.ensures c8.if-n-lt-OBJECTS.true c6.put_object.ensures c.put_in.ensures,
-      padding_entered _ _ _ _ c.put_in.ensures ∙ padding_fields a.s.now _ _ c6.put_object.ensures refl,
+    let a = c.args in (
+      added_is a.s.now _ _ a.o _ c.requires c.byte_in-n.ensures c.if-n-lt-OBJECTS.true c.put_object.ensures c.put_in.ensures,
+      padding_entered _ _ _ _ c.put_in.ensures ∙ padding_fields a.s.now _ _ c.put_object.ensures refl,
     )
 
 pub returns-else-n-lt-OBJECTS : goal.returns-else-n-lt-OBJECTS

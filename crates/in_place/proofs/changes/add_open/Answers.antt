@@ -8,14 +8,11 @@ use Rattle.in_place.proofs.changes.add_open.Goals as goal
 
 pub returns : goal.returns
 returns c =
-    let c3 = c in
-    let c5 = c3 in
-    let c8 = c5 in
-    let a = c8.args in
+    let a = c.args in
     let f = facility_at a.s.now in (
       c.put_marks.ensures.0
           ∙ ap (λ (x : ℕ). put_marks f a.p a.t x)
-          (c3.add_modes.ensures ∙ ap (λ (x : ℕ). add_modes x a.modes)
-          c5.opens_in-marks.ensures),
+          (c.add_modes.ensures ∙ ap (λ (x : ℕ). add_modes x a.modes)
+          c.opens_in-marks.ensures),
       c.put_marks.ensures.1,
     )

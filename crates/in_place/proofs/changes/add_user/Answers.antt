@@ -6,12 +6,8 @@ use Rattle.in_place.proofs.changes.add_user.Goals as goal
 
 pub returns-then-n-lt-USER_COUNT : goal.returns-then-n-lt-USER_COUNT
 returns-then-n-lt-USER_COUNT c =
-    let put = c in
-    let test = put in
-    let n = test in
-    let x = n in
-    let a = x.args in
-    user_added a.s.now _ _ a.u _ x.requires n.byte_in-n.ensures test.if-n-lt-USER_COUNT.true put.put_user.ensures c.put_in.ensures
+    let a = c.args in
+    user_added a.s.now _ _ a.u _ c.requires c.byte_in-n.ensures c.if-n-lt-USER_COUNT.true c.put_user.ensures c.put_in.ensures
 
 pub returns-else-n-lt-USER_COUNT : goal.returns-else-n-lt-USER_COUNT
 returns-else-n-lt-USER_COUNT c =

@@ -4,6 +4,5 @@ use Rattle.in_place.proofs.changes.clone.Goals as goal
 
 pub returns : goal.returns
 returns c =
-    let x = c in
-    let a = x.args in
-    cloned_is a.s.now _ _ a.p a.t _ x.process_in-r.ensures x.put_process.ensures c.copy_process.ensures
+    let a = c.args in
+    cloned_is a.s.now _ _ a.p a.t _ c.process_in-r.ensures c.put_process.ensures c.copy_process.ensures

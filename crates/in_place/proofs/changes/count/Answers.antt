@@ -9,11 +9,8 @@ returns-then-i-ge-USER_COUNT c = let a = c.args in (none_is a.s.now a.u (search 
 
 pub returns-then-n-lt-MOST_REFUSALS : goal.returns-then-n-lt-MOST_REFUSALS
 returns-then-n-lt-MOST_REFUSALS c =
-    let put = c in
-    let test = put in
-    let x = test in
-    let a = x.args in
-    (counted_is a.s.now _ a.u _ test.refusals_in-n.ensures test.if-n-lt-MOST_REFUSALS.true put.put_refusals.ensures.0, put.put_refusals.ensures.1)
+    let a = c.args in
+    (counted_is a.s.now _ a.u _ c.refusals_in-n.ensures c.if-n-lt-MOST_REFUSALS.true c.put_refusals.ensures.0, c.put_refusals.ensures.1)
 
 pub returns-else-n-lt-MOST_REFUSALS : goal.returns-else-n-lt-MOST_REFUSALS
 returns-else-n-lt-MOST_REFUSALS c =

@@ -5,6 +5,5 @@ use Rattle.in_place.proofs.changes.create_object.Goals as goal
 
 pub returns : goal.returns
 returns c =
-    let x = c in
-    let a = x.args in
-    becomes_then a.s.now _ _ _ (λ f. add_object f a.o) x.put_process.ensures c.add_object.ensures
+    let a = c.args in
+    becomes_then a.s.now _ _ _ (λ f. add_object f a.o) c.put_process.ensures c.add_object.ensures

@@ -4,6 +4,5 @@ use Rattle.in_place.proofs.changes.delete.Goals as goal
 
 pub returns : goal.returns
 returns c =
-    let x = c in
-    let a = x.args in
-    deleted_is a.s.now _ _ a.t x.close_object.ensures c.put_in.ensures
+    let a = c.args in
+    deleted_is a.s.now _ _ a.t c.close_object.ensures c.put_in.ensures

@@ -58,9 +58,8 @@ returns-in-21 c =
 pub returns-in_default : goal.returns-in_default
 returns-in_default c =
     let m = c.in_default.in_default-own.rest in
-    let e = c in
-    let a = e.args in
-    let r = known_moved a.v a.c _ _ e.requires.1 c.moved-r.ensures in
+    let a = c.args in
+    let r = known_moved a.v a.c _ _ c.requires.1 c.moved-r.ensures in
     let k = acts_on_object _ m.0.0.0.0.0.1 m.0.0.0.0.1 m.0.0.0.1 m.0.0.1 m.0.1 m.1
     (search rules) in
     becomes_by a.s.now _ _ _ (ap (λ x. change_of x a.v a.c) k

@@ -18,16 +18,13 @@ returns-then-number-eq0 c =
 pub returns-then-is_denial : goal.returns-then-is_denial
 unfolding change_by
 returns-then-is_denial c =
-    let d = c in
-    let x = d in
-    let a = x.args in
+    let a = c.args in
     becomes_by a.s.now _ (change_by a.number a.v a.c) (CountRefusal a.v.caller.owner)
-    (rw (ne_eqb _ 0 x.if-number-eq0.false, sym d.is_denial.ensures ∙ d.if-is_denial.true)) c.count.ensures
+    (rw (ne_eqb _ 0 c.if-number-eq0.false, sym c.is_denial.ensures ∙ c.if-is_denial.true)) c.count.ensures
 
 pub returns-else-is_denial : goal.returns-else-is_denial
 unfolding change_by
 returns-else-is_denial c =
-    let x = c in
-    let a = x.args in
+    let a = c.args in
     becomes_by a.s.now _ (change_by a.number a.v a.c) NoChange
-    (rw (ne_eqb _ 0 x.if-number-eq0.false, sym c.is_denial.ensures ∙ c.if-is_denial.false)) (refl, refl)
+    (rw (ne_eqb _ 0 c.if-number-eq0.false, sym c.is_denial.ensures ∙ c.if-is_denial.false)) (refl, refl)

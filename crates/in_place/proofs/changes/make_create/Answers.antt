@@ -23,20 +23,14 @@ module _ (v : View) (c : Call) (b : Bool) (o : Object) (d : b ≡ in_directory c
 
 pub returns-then-in_directory : goal.returns-then-in_directory
 returns-then-in_directory c =
-    let o = c in
-    let m = o in
-    let d = m in
-    let e = d in
-    let a = e.args in
-    let r = known_moved a.v a.c _ _ e.requires.1 m.moved-r.ensures in
+    let a = c.args in
+    let r = known_moved a.v a.c _ _ c.requires.1 c.moved-r.ensures in
     becomes_by a.s.now _ (change_of Create a.v a.c) _
-    (inside a.v a.c _ _ d.in_directory.ensures _ m.if-in_directory.true r o.created-o.ensures)
+    (inside a.v a.c _ _ c.in_directory.ensures _ c.if-in_directory.true r c.created-o.ensures)
     c.create_object.ensures
 
 pub returns : goal.returns
 returns c =
-    let o = c in
-    let d = o in
-    let a = d.args in
+    let a = c.args in
     becomes_by a.s.now _ (change_of Create a.v a.c) _
-    (outside a.v a.c _ _ d.in_directory.ensures o.if-in_directory.false o.created-o-2.ensures) c.add_object.ensures
+    (outside a.v a.c _ _ c.in_directory.ensures c.if-in_directory.false c.created-o-2.ensures) c.add_object.ensures

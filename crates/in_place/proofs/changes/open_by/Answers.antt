@@ -14,9 +14,7 @@ returns-in-Keep c =
 pub returns-in-Add : goal.returns-in-Add
 unfolding open_by
 returns-in-Add c =
-    let c5 = c in
-    let c8 = c5 in
-    let a = c8.args in (
+    let a = c.args in (
       c.add_open.ensures.0 ∙ ap (λ (x : OpenChange). open_by x (facility_at a.s.now) a.p a.t)
           (sym c.in-Add.is),
       c.add_open.ensures.1,
@@ -25,9 +23,7 @@ returns-in-Add c =
 pub returns-in-Close : goal.returns-in-Close
 unfolding open_by
 returns-in-Close c =
-    let c4 = c in
-    let c7 = c4 in
-    let a = c7.args in (
+    let a = c.args in (
       c.put_marks.ensures.0 ∙ ap (λ (x : OpenChange). open_by x (facility_at a.s.now) a.p a.t)
           (sym c.in-Close.is),
       c.put_marks.ensures.1,
@@ -36,9 +32,7 @@ returns-in-Close c =
 pub returns-in-CloseAll : goal.returns-in-CloseAll
 unfolding open_by
 returns-in-CloseAll c =
-    let c4 = c in
-    let c7 = c4 in
-    let a = c7.args in (
+    let a = c.args in (
       c.delete.ensures.0 ∙ ap (λ (x : OpenChange). open_by x (facility_at a.s.now) a.p a.t)
           (sym c.in-CloseAll.is),
       c.delete.ensures.1,

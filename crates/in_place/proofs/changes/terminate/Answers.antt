@@ -4,6 +4,5 @@ use Rattle.in_place.proofs.changes.terminate.Goals as goal
 
 pub returns : goal.returns
 returns c =
-    let x = c in
-    let a = x.args in
-    terminated_is a.s.now _ _ a.p _ x.none.ensures x.put_process.ensures c.close_process.ensures
+    let a = c.args in
+    terminated_is a.s.now _ _ a.p _ c.none.ensures c.put_process.ensures c.close_process.ensures

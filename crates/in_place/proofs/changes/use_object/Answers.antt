@@ -5,6 +5,5 @@ use Rattle.in_place.proofs.changes.use_object.Goals as goal
 
 pub returns : goal.returns
 returns c =
-    let x = c in
-    let a = x.args in
-    becomes_then a.s.now _ _ _ (λ f. open_by a.opens f a.p a.t) x.put_process.ensures c.open_by.ensures
+    let a = c.args in
+    becomes_then a.s.now _ _ _ (λ f. open_by a.opens f a.p a.t) c.put_process.ensures c.open_by.ensures

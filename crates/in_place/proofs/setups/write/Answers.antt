@@ -10,41 +10,36 @@ use Rattle.in_place.proofs.setups.write.Goals as goal
 
 pub lent-flags-requires : goal.lent-flags-requires
 lent-flags-requires c =
-    let a = c in
-    search (rules, a.requires)
+    search (rules, c.requires)
 
 pub lent-parents-requires : goal.lent-parents-requires
 lent-parents-requires c =
-    let a = c in
-    search (rules, a.requires)
+    search (rules, c.requires)
 
 pub lent-sets-requires : goal.lent-sets-requires
 lent-sets-requires c =
-    let a = c in
-    search (rules, a.requires)
+    search (rules, c.requires)
 
 pub returns : goal.returns
 unfolding facility_at
 returns c =
     let written = c.write_parts in
-    let objects = c in
-    let sets = objects.lent-sets.ensures in
-    let parents = objects.lent-parents.ensures in
-    let flags = objects.lent-flags.ensures in
-    let datatypes = objects.lent-datatypes.ensures in
-    let categories = objects.lent-categories.ensures in
-    let levels = objects.lent-levels.ensures in
-    let kinds = objects.lent-kinds.ensures in
-    let lives = objects.lent-lives.ensures in
-    let entered = objects.byte_in-entered.ensures in
-    let users = objects in
-    let clearancesets = users.lent-clearancesets.ensures in
-    let trusts = users.lent-trusts.ensures in
-    let roles = users.lent-roles.ensures in
-    let clearances = users.lent-clearances.ensures in
-    let count = users.byte_in-users.ensures in
-    let switches = users.switches_in-switches.ensures in
-    let a = users.args in
+    let sets = c.lent-sets.ensures in
+    let parents = c.lent-parents.ensures in
+    let flags = c.lent-flags.ensures in
+    let datatypes = c.lent-datatypes.ensures in
+    let categories = c.lent-categories.ensures in
+    let levels = c.lent-levels.ensures in
+    let kinds = c.lent-kinds.ensures in
+    let lives = c.lent-lives.ensures in
+    let entered = c.byte_in-entered.ensures in
+    let clearancesets = c.lent-clearancesets.ensures in
+    let trusts = c.lent-trusts.ensures in
+    let roles = c.lent-roles.ensures in
+    let clearances = c.lent-clearances.ensures in
+    let count = c.byte_in-users.ensures in
+    let switches = c.switches_in-switches.ensures in
+    let a = c.args in
     let o = a.out.now in
     let e =
     (λ i.

@@ -14,27 +14,24 @@ loop-i-init c = (omega arith, c.requires.0, cleared_none c.args.s.now c.args.fro
 pub bounds-s-i : goal.bounds-s-i
 bounds-s-i c =
     let l = c.loop-i in
-    let x = c in
-    omega (arith, l.invariant.3, c.loop-i-test.true, x.requires.1)
+    omega (arith, l.invariant.3, c.loop-i-test.true, c.requires.1)
 
 pub loop-i-preserved : goal.loop-i-preserved
 loop-i-preserved c =
     let l = c.loop-i in
-    let x = c in
-    let s = x.args.s.now in
-    let h : l.i < length s = omega (arith, c.loop-i-test.true, x.requires.1) in (
+    let s = c.args.s.now in
+    let h : l.i < length s = omega (arith, c.loop-i-test.true, c.requires.1) in (
       omega (arith, l.invariant.0),
       omega (arith, c.loop-i-test.true),
-      ap (λ (m : List ℕ). set m l.i 0) l.invariant.2 ∙ cleared_more s x.args.from l.i l.invariant.0 h,
+      ap (λ (m : List ℕ). set m l.i 0) l.invariant.2 ∙ cleared_more s c.args.from l.i l.invariant.0 h,
       length-set l.s l.i 0 ∙ l.invariant.3,
     )
 
 pub returns : goal.returns
 returns c =
     let l = c.loop-i in
-    let x = c in
-    let e : l.i ≡ x.args.to = omega (arith, c.loop-i-test.false, l.invariant.1) in
-    l.invariant.2 ∙ ap (cleared x.args.s.now x.args.from) e
+    let e : l.i ≡ c.args.to = omega (arith, c.loop-i-test.false, l.invariant.1) in
+    l.invariant.2 ∙ ap (cleared c.args.s.now c.args.from) e
 
 pub shape_of-s : goal.shape_of-s
 shape_of-s c = c.loop-i.invariant.3

@@ -11,8 +11,7 @@ use Rattle.in_place.proofs.stores.close_object.Goals as goal
 pub returns : goal.returns
 unfolding facility_at
 returns c =
-    let x = c in
-    let s = x.args.s.now in
+    let s = c.args.s.now in
     let e = c.close_object.ensures in
-    let b = opens_lent s _ x.requires (ap length e ∙ length_object_closed (facility_at s).opens x.args.t ∙ opens_length s x.requires) in
+    let b = opens_lent s _ c.requires (ap length e ∙ length_object_closed (facility_at s).opens c.args.t ∙ opens_length s c.requires) in
     (b.0 ∙ ap (put_opens (facility_at s)) e, b.1)

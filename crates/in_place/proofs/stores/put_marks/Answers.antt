@@ -10,12 +10,10 @@ use Rattle.in_place.proofs.stores.put_marks.Goals as goal
 
 pub returns : goal.returns
 returns c =
-    let c3 = c in
-    let c6 = c3 in
-    let a = c6.args in
+    let a = c.args in
     let m = c.put_in.ensures in (
       opens_step a.s.now _ (facility_at a.s.now) (facility_at a.s.now).opens _ a.v (opens_first a.s.now) m
-          ∙ ap (λ (n : ℕ). put_opens (facility_at a.s.now) (set (facility_at a.s.now).opens n a.v)) c3.mark_place.ensures,
+          ∙ ap (λ (n : ℕ). put_opens (facility_at a.s.now) (set (facility_at a.s.now).opens n a.v)) c.mark_place.ensures,
       padding_marks a.s.now _ _ _ m,
     )
 

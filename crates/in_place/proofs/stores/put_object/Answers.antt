@@ -6,34 +6,18 @@ use Rattle.in_place.proofs.stores.put_object.Goals as goal
 
 pub shape_of-s : goal.shape_of-s
 shape_of-s c =
-    let c8 = c in
-    let c7 = c8 in
-    let c6 = c7 in
-    let c5 = c6 in
-    let c4 = c5 in
-    let c3 = c4 in
-    let c2 = c3 in
-    let c1 = c2 in
-    c8.put_in-8.auto.s ∙ c7.put_in-7.auto.s ∙ c6.put_in-6.auto.s ∙ c5.put_in-5.auto.s
-    ∙ c4.put_in-4.auto.s ∙ c3.put_in-3.auto.s ∙ c2.put_in-2.auto.s ∙ c1.put_in.auto.s
+    c.put_in-8.auto.s ∙ c.put_in-7.auto.s ∙ c.put_in-6.auto.s ∙ c.put_in-5.auto.s
+    ∙ c.put_in-4.auto.s ∙ c.put_in-3.auto.s ∙ c.put_in-2.auto.s ∙ c.put_in.auto.s
 
 pub returns : goal.returns
 returns c =
-    let c8 = c in
-    let c7 = c8 in
-    let c6 = c7 in
-    let c5 = c6 in
-    let c4 = c5 in
-    let c3 = c4 in
-    let c2 = c3 in
-    let c1 = c2 in
-    let a = c1.args in
+    let a = c.args in
     let o = a.o in
-    let f = stored a.s.now _ (field_of a.s.now) the_lives a.i o.live refl c1.put_in.ensures in
-    let f = stored _ _ _ the_kinds a.i o.kind f c2.put_in-2.ensures in
-    let f = stored _ _ _ the_levels a.i o.label.level f c3.put_in-3.ensures in
-    let f = stored _ _ _ the_categories a.i o.category f c4.put_in-4.ensures in
-    let f = stored _ _ _ the_datatypes a.i o.datatype f c5.put_in-5.ensures in
-    let f = stored _ _ _ the_flags a.i o.flags f c6.put_in-6.ensures in
-    let f = stored _ _ _ the_parents a.i o.parent f c7.put_in-7.ensures in
-    stored _ _ _ the_sets a.i o.label.set f c8.put_in-8.ensures
+    let f = stored a.s.now _ (field_of a.s.now) the_lives a.i o.live refl c.put_in.ensures in
+    let f = stored _ _ _ the_kinds a.i o.kind f c.put_in-2.ensures in
+    let f = stored _ _ _ the_levels a.i o.label.level f c.put_in-3.ensures in
+    let f = stored _ _ _ the_categories a.i o.category f c.put_in-4.ensures in
+    let f = stored _ _ _ the_datatypes a.i o.datatype f c.put_in-5.ensures in
+    let f = stored _ _ _ the_flags a.i o.flags f c.put_in-6.ensures in
+    let f = stored _ _ _ the_parents a.i o.parent f c.put_in-7.ensures in
+    stored _ _ _ the_sets a.i o.label.set f c.put_in-8.ensures

@@ -8,41 +8,21 @@ use Rattle.in_place.proofs.stores.put_process.Goals as goal
 
 pub shape_of-s : goal.shape_of-s
 shape_of-s c =
-    let c10 = c in
-    let c9 = c10 in
-    let c8 = c9 in
-    let c7 = c8 in
-    let c6 = c7 in
-    let c5 = c6 in
-    let c4 = c5 in
-    let c3 = c4 in
-    let c2 = c3 in
-    let c1 = c2 in
-    c10.put_in-10.auto.s ∙ c9.put_in-9.auto.s ∙ c8.put_in-8.auto.s ∙ c7.put_in-7.auto.s ∙ c6.put_in-6.auto.s
-    ∙ c5.put_in-5.auto.s ∙ c4.put_in-4.auto.s ∙ c3.put_in-3.auto.s ∙ c2.put_in-2.auto.s ∙ c1.put_in.auto.s
+    c.put_in-10.auto.s ∙ c.put_in-9.auto.s ∙ c.put_in-8.auto.s ∙ c.put_in-7.auto.s ∙ c.put_in-6.auto.s
+    ∙ c.put_in-5.auto.s ∙ c.put_in-4.auto.s ∙ c.put_in-3.auto.s ∙ c.put_in-2.auto.s ∙ c.put_in.auto.s
 
 pub returns : goal.returns
 returns c =
-    let c10 = c in
-    let c9 = c10 in
-    let c8 = c9 in
-    let c7 = c8 in
-    let c6 = c7 in
-    let c5 = c6 in
-    let c4 = c5 in
-    let c3 = c4 in
-    let c2 = c3 in
-    let c1 = c2 in
-    let a = c1.args in
+    let a = c.args in
     let r = a.r in
-    let f = stored a.s.now _ (field_of a.s.now) the_runnings a.p r.running refl c1.put_in.ensures in
-    let f = stored _ _ _ the_owners a.p r.owner f c2.put_in-2.ensures in
-    let f = stored _ _ _ the_currents a.p r.current.level f c3.put_in-3.ensures in
-    let f = stored _ _ _ the_readmarks a.p r.readmark.level f c4.put_in-4.ensures in
-    let f = stored _ _ _ the_writemarks a.p r.writemark.level f c5.put_in-5.ensures in
-    let f = stored _ _ _ the_automatics a.p r.automatic f c6.put_in-6.ensures in
-    let f = stored _ _ _ the_moves a.p r.moves f c7.put_in-7.ensures in
-    let f = stored _ _ _ the_currentsets a.p r.current.set f c8.put_in-8.ensures in
-    let f = stored _ _ _ the_readsets a.p r.readmark.set f c9.put_in-9.ensures in
-    let f = stored _ _ _ the_writesets a.p r.writemark.set f c10.put_in-10.ensures in
+    let f = stored a.s.now _ (field_of a.s.now) the_runnings a.p r.running refl c.put_in.ensures in
+    let f = stored _ _ _ the_owners a.p r.owner f c.put_in-2.ensures in
+    let f = stored _ _ _ the_currents a.p r.current.level f c.put_in-3.ensures in
+    let f = stored _ _ _ the_readmarks a.p r.readmark.level f c.put_in-4.ensures in
+    let f = stored _ _ _ the_writemarks a.p r.writemark.level f c.put_in-5.ensures in
+    let f = stored _ _ _ the_automatics a.p r.automatic f c.put_in-6.ensures in
+    let f = stored _ _ _ the_moves a.p r.moves f c.put_in-7.ensures in
+    let f = stored _ _ _ the_currentsets a.p r.current.set f c.put_in-8.ensures in
+    let f = stored _ _ _ the_readsets a.p r.readmark.set f c.put_in-9.ensures in
+    let f = stored _ _ _ the_writesets a.p r.writemark.set f c.put_in-10.ensures in
     (process_stored a.s.now _ a.p r f, padding_fields a.s.now _ _ f refl)

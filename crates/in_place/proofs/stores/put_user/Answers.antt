@@ -6,13 +6,9 @@ use Rattle.in_place.proofs.stores.put_user.Goals as goal
 
 pub returns : goal.returns
 returns c =
-    let c4 = c in
-    let c3 = c4 in
-    let c2 = c3 in
-    let c1 = c2 in
-    let a = c1.args in
+    let a = c.args in
     let u = a.u in
-    let f = stored a.s.now _ (field_of a.s.now) the_clearances a.i u.clearance.level refl c1.put_in.ensures in
-    let f = stored _ _ _ the_roles a.i u.role f c2.put_in-2.ensures in
-    let f = stored _ _ _ the_trusts a.i u.trusted f c3.put_in-3.ensures in
-    stored _ _ _ the_clearancesets a.i u.clearance.set f c4.put_in-4.ensures
+    let f = stored a.s.now _ (field_of a.s.now) the_clearances a.i u.clearance.level refl c.put_in.ensures in
+    let f = stored _ _ _ the_roles a.i u.role f c.put_in-2.ensures in
+    let f = stored _ _ _ the_trusts a.i u.trusted f c.put_in-3.ensures in
+    stored _ _ _ the_clearancesets a.i u.clearance.set f c.put_in-4.ensures

@@ -7,18 +7,12 @@ use Rattle.in_place.proofs.views.flags_for.Goals as goal
 pub returns-then-forbidding-eq0 : goal.returns-then-forbidding-eq0
 unfolding facility_at object_in
 returns-then-forbidding-eq0 c =
-    let f = c in
-    let b = f in
-    let e = b in
-    let a = e.args in
-    asked_none (facility_at a.s.now) a.c _ _ _ b.byte_in-kind.ensures e.requires.1 f.forbidding.ensures c.if-forbidding-eq0.true
+    let a = c.args in
+    asked_none (facility_at a.s.now) a.c _ _ _ c.byte_in-kind.ensures c.requires.1 c.forbidding.ensures c.if-forbidding-eq0.true
 
 pub returns : goal.returns
 unfolding facility_at object_in
 returns c =
-    let f = c in
-    let b = f in
-    let e = b in
-    let a = e.args in
-    asked_all (facility_at a.s.now) a.c _ _ _ _ b.byte_in-kind.ensures e.requires.1 f.forbidding.ensures c.if-forbidding-eq0.false
+    let a = c.args in
+    asked_all (facility_at a.s.now) a.c _ _ _ _ c.byte_in-kind.ensures c.requires.1 c.forbidding.ensures c.if-forbidding-eq0.false
     c.flags_in.ensures

@@ -23,31 +23,23 @@ module _ (f : Facility) (c : Call) (t : Target) (b : Bool) (d : b ≡ is_send_si
 
 pub returns-then-is_send_signal : goal.returns-then-is_send_signal
 returns-then-is_send_signal c =
-    let receiver = c in
-    let asked = receiver in
-    let opens = asked in
-    let object = opens in
-    let a = object.args in
+    let a = c.args in
     let f = facility_at a.s.now in
-    signal f a.c _ _ asked.is_send_signal.ensures receiver.if-is_send_signal.true
+    signal f a.c _ _ c.is_send_signal.ensures c.if-is_send_signal.true
     (λ i. record {
-      receiver = receiver.process_in-receiver.ensures i;
-      object = object.object_in-object.ensures i;
-      opens = opens.opens_in-opens.ensures i;
-      owner = (c.user_in.ensures ∙ ap (λ (r : Process). user_of f r.owner) receiver.process_in-receiver.ensures) i;
+      receiver = c.process_in-receiver.ensures i;
+      object = c.object_in-object.ensures i;
+      opens = c.opens_in-opens.ensures i;
+      owner = (c.user_in.ensures ∙ ap (λ (r : Process). user_of f r.owner) c.process_in-receiver.ensures) i;
     })
 
 pub returns : goal.returns
 returns c =
-    let none = c in
-    let asked = none in
-    let opens = asked in
-    let object = opens in
-    let a = object.args in
-    other (facility_at a.s.now) a.c _ _ asked.is_send_signal.ensures none.if-is_send_signal.false
+    let a = c.args in
+    other (facility_at a.s.now) a.c _ _ c.is_send_signal.ensures c.if-is_send_signal.false
     (λ i. record {
-      receiver = none.none.ensures i;
-      object = object.object_in-object.ensures i;
-      opens = opens.opens_in-opens.ensures i;
+      receiver = c.none.ensures i;
+      object = c.object_in-object.ensures i;
+      opens = c.opens_in-opens.ensures i;
       owner = c.no_user.ensures i;
     })

@@ -8,18 +8,13 @@ use Rattle.in_place.proofs.views.view_in.Goals as goal
 pub returns : goal.returns
 unfolding facility_at
 returns c =
-    let switches = c in
-    let target = switches in
-    let owner = target in
-    let caller = owner in
-    let looked = caller in
-    let s = looked.args.s.now in
+    let s = c.args.s.now in
     λ i. record {
-      switches = switches.switches_in-switches.ensures i;
+      switches = c.switches_in-switches.ensures i;
       users = c.byte_in.ensures i;
       entered = c.byte_in-2.ensures i;
-      caller = caller.process_in-caller.ensures i;
-      owner = (owner.user_in-owner.ensures ∙ ap (λ (r : Process). user_of (facility_at s) r.owner) caller.process_in-caller.ensures) i;
-      target = target.target_for-target.ensures i;
-      looked = looked.looked_for-looked.ensures i;
+      caller = c.process_in-caller.ensures i;
+      owner = (c.user_in-owner.ensures ∙ ap (λ (r : Process). user_of (facility_at s) r.owner) c.process_in-caller.ensures) i;
+      target = c.target_for-target.ensures i;
+      looked = c.looked_for-looked.ensures i;
     }

@@ -7,9 +7,8 @@ use Rattle.in_place.proofs.views.whole_view_in.Goals as goal
 
 pub view_in-v-requires : goal.view_in-v-requires
 view_in-v-requires c =
-    let known = c in
-    let a = known.args in
-    (search rules, asked_class (facility_at a.s.now) a.c _ known.request_in-class.ensures)
+    let a = c.args in
+    (search rules, asked_class (facility_at a.s.now) a.c _ c.request_in-class.ensures)
 
 pub returns : goal.returns
 returns c = λ i. view_with (c.view_in-v.ensures i) (c.target_in-target.ensures i) (c.looked_in-looked.ensures i)

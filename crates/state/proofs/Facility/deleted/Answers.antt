@@ -14,6 +14,5 @@ returns-then-i-lt-OBJECTS c = rw c.close_object.ensures
 pub returns-else-i-lt-OBJECTS : goal.returns-else-i-lt-OBJECTS
 unfolding put_opens
 returns-else-i-lt-OBJECTS c =
-    let x = c in
-    let n : length x.args.self.lives ≡ most_objects = search rules in
-    rw c.close_object.ensures (sym (drop_out (put_opens x.args.self _) x.args.t n c.if-i-lt-OBJECTS.false))
+    let n : length c.args.self.lives ≡ most_objects = search rules in
+    rw c.close_object.ensures (sym (drop_out (put_opens c.args.self _) c.args.t n c.if-i-lt-OBJECTS.false))

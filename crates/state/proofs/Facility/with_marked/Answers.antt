@@ -12,10 +12,9 @@ use Rattle.state.proofs.Facility.with_marked.Goals as goal
 pub returns-then-k-lt-PAIRS : goal.returns-then-k-lt-PAIRS
 unfolding put_process put_opens opens_of
 returns-then-k-lt-PAIRS c =
-    let k = c in
-    let a = k.args in
+    let a = c.args in
     let f = a.self in
-    let e = k.mark_place-k.ensures in
+    let e = c.mark_place-k.ensures in
     let v = c.marks_after.ensures ∙ ap (marks_after a.change) (c.at-marks.ensures ∙ ap (at f.opens) e) in
     λ i. put_opens (put_process f a.p a.r) (set f.opens (e i) (v i))
 

@@ -9,9 +9,8 @@ use Rattle.words.proofs.short.put_create.Goals as goal
 
 pub returns-then-in_directory : goal.returns-then-in_directory
 returns-then-in_directory c =
-    let c5 = c in
-    let a = c5.args in
-    rw (sym c5.in_directory.ensures ∙ c5.if-in_directory.true)
+    let a = c.args in
+    rw (sym c.in_directory.ensures ∙ c.if-in_directory.true)
     (stores a.out.now a.place (filled (ascii " % in") (a.c.extra ∷ [])) (short_object a.c.target a.o ∷ [])
     (c.put_one-p.ensures ▸ c.put_object.ensures ▸ end))
 

@@ -10,11 +10,7 @@ use Rattle.words.proofs.short.put_outcome.Goals as goal
 
 pub returns : goal.returns
 returns c =
-    let object = c in
-    let c2 = object in
-    let c1 = c2 in
-    let number = c1 in
-    let a = number.args in
+    let a = c.args in
     stores a.out.now a.place (filled (ascii ": # !") (number_of a.o ∷ number_of a.o ∷ []))
     (failed_text a.r.failed a.r.source ∷ made_text (object_number_of a.o) ∷ [])
-    (rw number.number-n.ensures at c1.put_filled-p.ensures ▸ c2.put_failed-p.ensures ▸ rw object.object.ensures at c.put_made.ensures ▸ end)
+    (rw c.number-n.ensures at c.put_filled-p.ensures ▸ c.put_failed-p.ensures ▸ rw c.object.ensures at c.put_made.ensures ▸ end)

@@ -10,19 +10,12 @@ use Rattle.words.proofs.short.put_receiver.Goals as goal
 pub returns-then-signal-clone : goal.returns-then-signal-clone
 unfolding ◌and◌ ◌or◌
 returns-then-signal-clone c =
-    let c5 = c in
-    let same = c5 in
-    let clone = same in
-    let signal = clone in
-    let a = signal.args in
-    rw (← signal.is_send_signal-signal.ensures, ← clone.is_clone-clone.ensures, ← same.same_process.ensures, c5.if-signal-clone.true)
+    let a = c.args in
+    rw (← c.is_send_signal-signal.ensures, ← c.is_clone-clone.ensures, ← c.same_process.ensures, c.if-signal-clone.true)
     (stores a.out.now a.place (filled (ascii "; process # then ") (a.c.target ∷ [])) (labels_text a.x a.u ∷ [])
     (c.put_one-p.ensures ▸ c.put_labels.ensures ▸ end))
 
 pub returns : goal.returns
 unfolding ◌and◌ ◌or◌
 returns c =
-    let c3 = c in
-    let same = c3 in
-    let clone = same in
-    rw (← clone.is_send_signal-signal.ensures, ← clone.is_clone-clone.ensures, ← same.same_process.ensures, c3.if-signal-clone.false) c.put_nothing.ensures
+    rw (← c.is_send_signal-signal.ensures, ← c.is_clone-clone.ensures, ← c.same_process.ensures, c.if-signal-clone.false) c.put_nothing.ensures

@@ -10,19 +10,12 @@ use Rattle.words.proofs.short.put_short.Goals as goal
 
 pub returns : goal.returns
 returns c =
-    let c7 = c in
-    let c6 = c7 in
-    let c5 = c6 in
-    let c4 = c5 in
-    let c3 = c4 in
-    let c2 = c3 in
-    let c1 = c2 in
-    let a = c1.args in
+    let a = c.args in
     let t = a.t in
     stores a.out.now a.place (decimal t.index)
     (filled (ascii " process # &") (t.call.process ∷ t.call.request ∷ [])
     ∷ short_target (action_of t.call.request) t.call t.before ∷ short_outcome t.outcome t.reason
     ∷ caller_then t.outcome t.before.caller t.later.caller t.later.owner
     ∷ target_then t.call t.before.target.receiver t.later.target.receiver t.later.target.owner ∷ (line_feed ∷ []) ∷ [])
-    (c1.put_decimal-p.ensures ▸ c2.put_filled-p.ensures ▸ c3.put_short_target-p.ensures ▸ c4.put_outcome-p.ensures ▸ c5.put_caller-p.ensures
-    ▸ c6.put_receiver-p.ensures ▸ c7.put_text.ensures ▸ end)
+    (c.put_decimal-p.ensures ▸ c.put_filled-p.ensures ▸ c.put_short_target-p.ensures ▸ c.put_outcome-p.ensures ▸ c.put_caller-p.ensures
+    ▸ c.put_receiver-p.ensures ▸ c.put_text.ensures ▸ end)

@@ -6,6 +6,4 @@ use Rattle.words.proofs.short.same_process.Goals as goal
 pub returns : goal.returns
 unfolding same_process ◌and◌
 returns c =
-    let high = c in
-    let low = high in
-    rw (low.same.ensures, low.same-2.ensures, high.same-3.ensures)
+    rw (c.same.ensures, c.same-2.ensures, c.same-3.ensures)
