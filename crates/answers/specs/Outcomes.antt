@@ -2,14 +2,14 @@
 pub use Rattle.answers.specs.declared.Answers.{Answers}
 pub use Rattle.answers.specs.declared.Outcome.{Outcome}
 pub use Rattle.answers.specs.declared.CallOutcome.{CallOutcome}
-pub use Rattle.answers.specs.declared.SetupOutcome.{SetupOutcome}
-pub use Rattle.answers.specs.declared.WriteOutcome.{WriteOutcome}
+pub use Rattle.answers.specs.declared.SetupRefusal.{SetupRefusal}
+pub use Rattle.answers.specs.declared.NoRoom.{NoRoom}
+use Rattle.std.specs.declared.result.Result.{Result}
+use Rattle.std.specs.declared.result.Result.TheVariants.{Ok, Err}
 use Rattle.std.specs.Prelude.{ℕ, Bool, cond, eqb}
 use Rattle.labels.specs.Decisions.{◌or◌}
 use Rattle.answers.specs.Answers.{NotCared, Answer, code, combine_all}
 use Rattle.answers.specs.declared.Outcome.TheVariants.{Accepted, Denied, Refused}
-use Rattle.answers.specs.declared.SetupOutcome.TheVariants.{Accepted as SetupAccepted, Refused as SetupRefused}
-use Rattle.answers.specs.declared.WriteOutcome.TheVariants.{Written, NoRoom}
 
 -- the numbers by which the modules' combined answer refuses a call
 unfoldable pub denies : ℕ → Bool
@@ -59,20 +59,40 @@ outcome_numbers o =
       ff = code (answers_of o).ff;
     }
 
+-- what reading a set-up comes to: it is accepted, or refused with a number and the index of a record
+abbrev pub SetupOutcome : Type 0
+SetupOutcome = Result Unit SetupRefusal
+
+abbrev pub setup_accepted : SetupOutcome
+setup_accepted = Ok tt
+
+abbrev pub setup_refused : ℕ → ℕ → SetupOutcome
+setup_refused n i = Err (record { number = n; index = i })
+
+-- what writing a set-up out comes to: it is written in n bytes, or there is no room for it
+abbrev pub WriteOutcome : Type 0
+WriteOutcome = Result ℕ NoRoom
+
+abbrev pub written : ℕ → WriteOutcome
+written n = Ok n
+
+abbrev pub no_room : WriteOutcome
+no_room = Err (record {})
+
 -- a set-up's number and index
 abbrev pub setup_number : SetupOutcome → ℕ
-setup_number SetupAccepted = 0
-setup_number (SetupRefused n i) = n
+setup_number (Ok u) = 0
+setup_number (Err r) = r.number
 
 abbrev pub setup_index : SetupOutcome → ℕ
-setup_index SetupAccepted = 0
-setup_index (SetupRefused n i) = i
+setup_index (Ok u) = 0
+setup_index (Err r) = r.index
 
 -- the number and the length of a set-up that was to be written out
 abbrev pub write_number : WriteOutcome → ℕ
-write_number (Written n) = 0
-write_number NoRoom = 18
+write_number (Ok n) = 0
+write_number (Err r) = 18
 
 abbrev pub write_length : WriteOutcome → ℕ
-write_length (Written n) = n
-write_length NoRoom = 0
+write_length (Ok n) = n
+write_length (Err r) = 0

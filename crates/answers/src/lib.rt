@@ -8,8 +8,8 @@ ghost use Rattle.answers.specs.Outcomes.{answers_from, outcome_of, number_of, an
 // The object number that a call has which gives none.
 pub const NO_OBJECT: u8 = 255;
 
-// What a module answers to a call.
-#[derive(Clone, Copy)]
+// What a module answers to a call, in the order of the paper's numbers.
+#[derive(Clone, Copy, PartialEq, Eq, PartialOrd, Ord)]
 pub enum Answer {
     NotCared,
     Granted,
@@ -18,7 +18,7 @@ pub enum Answer {
 }
 
 // The answers that a call returns: one of each module, and their combination.
-#[derive(Clone, Copy)]
+#[derive(Clone, Copy, PartialEq, Eq)]
 pub struct Answers {
     pub mac: Answer,
     pub fc: Answer,
@@ -28,7 +28,7 @@ pub struct Answers {
 }
 
 // What a call comes to.
-#[derive(Clone, Copy)]
+#[derive(Clone, Copy, PartialEq, Eq)]
 pub enum Outcome {
     // Number 0. `object` is the number that create gave, 255 with every other request.
     Accepted { answers: Answers, object: u8 },
@@ -38,57 +38,48 @@ pub enum Outcome {
     Refused { number: u8 },
 }
 
-// What reading a set-up comes to.
+// Why a set-up is refused: number 14 to 17 or 19, and the index of the record that is refused.
 #[derive(Clone, Copy)]
-pub enum SetupOutcome {
-    Accepted,
-    // Number 14 to 17 or 19, and the index of the record that is refused.
-    Refused { number: u8, index: u16 },
+pub struct SetupRefusal {
+    pub number: u8,
+    pub index: u16,
 }
 
-// What writing a set-up out comes to.
+// What reading a set-up comes to.
+pub type SetupOutcome = Result<(), SetupRefusal>;
+
+// Number 18: the lent buffer does not hold the set-up.
 #[derive(Clone, Copy)]
-pub enum WriteOutcome {
-    // The number of bytes written.
-    Written { length: usize },
-    // Number 18: the lent buffer does not hold them all.
-    NoRoom,
-}
+pub struct NoRoom;
+
+// What writing a set-up out comes to: the number of bytes written.
+pub type WriteOutcome = Result<usize, NoRoom>;
 
 impl Answer {
     // The paper's number of an answer.
     pub fn code(self) -> u8
         ensures { result ≡ code self }
     {
-        match self {
-            Answer::NotCared => 0,
-            Answer::Granted => 1,
-            Answer::NotGranted => 2,
-            Answer::Undefined => 3,
-        }
+        self as u8
     }
 
     // Table 4.7: the one with the larger number.
     fn combine(self, other: Answer) -> Answer
         ensures { result ≡ combine self other }
     {
-        if self.code() < other.code() {
-            other
-        } else {
-            self
-        }
+        self.max(other)
     }
 
     pub fn is_not_granted(self) -> bool
         ensures { result ≡ is_not_granted self }
     {
-        self.code() == 2
+        self == Answer::NotGranted
     }
 
     pub fn is_undefined(self) -> bool
         ensures { result ≡ is_undefined self }
     {
-        self.code() == 3
+        self == Answer::Undefined
     }
 
     // Granted where a test holds, else not granted.
@@ -199,22 +190,25 @@ pub struct CallOutcome {
 }
 
 // An outcome by its numbers, as C is given it.
-pub fn outcome_numbers(o: Outcome) -> CallOutcome
-    ensures { result ≡ outcome_numbers o }
-{
-    let answers = o.answers();
-    let mac = answers.mac;
-    let fc = answers.fc;
-    let sim = answers.sim;
-    let ff = answers.ff;
-    let combined = answers.combined;
-    CallOutcome {
-        number: o.number(),
-        mac: mac.code(),
-        fc: fc.code(),
-        sim: sim.code(),
-        combined: combined.code(),
-        object: o.object(),
-        ff: ff.code(),
+impl From<Outcome> for CallOutcome {
+    ghost from_gives = { λ o r. r ≡ outcome_numbers o };
+
+    fn from(o: Outcome) -> CallOutcome {
+        let Answers {
+            mac,
+            fc,
+            sim,
+            ff,
+            combined,
+        } = o.answers();
+        CallOutcome {
+            number: o.number(),
+            mac: mac.code(),
+            fc: fc.code(),
+            sim: sim.code(),
+            combined: combined.code(),
+            object: o.object(),
+            ff: ff.code(),
+        }
     }
 }

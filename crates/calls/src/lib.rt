@@ -1,108 +1,68 @@
-// Query and enforce on a facility by value.
+// Query and enforce on a facility, wherever it is.
 #![tactic(auto)]
 
 ghost use Rattle.std.specs.Prelude.{◌≡◌};
-ghost use Rattle.rules.specs.Calls.{enforce, query};
+ghost use Rattle.questions.specs.Parts.{process_number};
+ghost use Rattle.rules.specs.Calls.{after, enforce, query};
 ghost use Rattle.rules.specs.Modules.{view_of};
+ghost use Rattle.rules.specs.Questions.{runs_of};
+ghost use Rattle.rules.specs.Requests.{action_of};
+
+mod changes;
+mod views;
 
 use answers::Outcome;
-use rules::{Enforced, Looked, Target, View};
-use state::{Call, Facility, Switches};
+use in_place::FacilityStore;
+use rules::Enforced;
+use state::{Call, Facility};
+pub use views::view_of;
 
-// What a call looks at. The arrays are lent to the readers, so that they are not copied.
-pub fn view_of(f: Facility, c: Call) -> View
-    ensures { result ≡ view_of f c }
+// The number by which one of the questions 1 to 5 refuses, or 0. After the two tests no later one asks whether the caller's number is one.
+fn first_number<S: FacilityStore>(s: &S, c: Call) -> u8
+    ensures { result ≡ process_number (action_of c.request) (runs_of (view_of (S.facility s.now) c)) c 0 }
 {
-    let i = opens::mark_place(c.process, c.target) as usize;
-    let p = c.process as usize;
-    let t = c.target as usize;
-    let caller = state::process_at(
-        &f.runnings,
-        &f.owners,
-        &f.currents,
-        &f.readmarks,
-        &f.writemarks,
-        &f.automatics,
-        &f.moves,
-        &f.currentsets,
-        &f.readsets,
-        &f.writesets,
-        p,
-    );
-    let receiver = state::process_at(
-        &f.runnings,
-        &f.owners,
-        &f.currents,
-        &f.readmarks,
-        &f.writemarks,
-        &f.automatics,
-        &f.moves,
-        &f.currentsets,
-        &f.readsets,
-        &f.writesets,
-        t,
-    );
-    let owner = state::user_at(
-        &f.clearances,
-        &f.roles,
-        &f.trusts,
-        &f.clearancesets,
-        caller.owner as usize,
-    );
-    let object = state::object_at(
-        &f.lives,
-        &f.kinds,
-        &f.levels,
-        &f.categories,
-        &f.datatypes,
-        &f.flags,
-        &f.parents,
-        &f.sets,
-        t,
-    );
-    let opens = labels::at(&f.opens, i);
-    let flags = flags::seen_at(f.ff, &f.lives, &f.flags, &f.parents, t);
-    let other = state::user_at(
-        &f.clearances,
-        &f.roles,
-        &f.trusts,
-        &f.clearancesets,
-        receiver.owner as usize,
-    );
-    View {
-        switches: Switches {
-            mac: f.mac,
-            fc: f.fc,
-            sim: f.sim,
-            ff: f.ff,
-        },
-        users: f.users,
-        entered: f.entered,
-        caller,
-        owner,
-        target: Target {
-            receiver,
-            object,
-            opens,
-            owner: other,
-        },
-        looked: Looked { flags },
+    if requests::LAST < c.request {
+        return 1;
     }
+    if opens::PROCESSES <= c.process {
+        return 2;
+    }
+    questions::process_number(views::runs(s, c), c, 0)
 }
 
 // What enforce would give; nothing changes.
-pub fn query(f: Facility, c: Call) -> Outcome
-    ensures { result ≡ query f c }
+pub fn query<S: FacilityStore>(s: &S, c: Call) -> Outcome
+    ensures { result ≡ query (S.facility s.now) c }
 {
-    questions::outcome_in(view_of(f, c), c)
+    let number = first_number(s, c);
+    if number != 0 {
+        return Outcome::Refused { number };
+    }
+    let q = views::request(s, c);
+    questions::outcome_later(q, views::view_asked(s, q.class, c), c)
 }
 
-// The facility after a call, and what the call came to.
-pub fn enforce(f: Facility, c: Call) -> Enforced
+// What a call comes to, and the facility becomes the one after it.
+pub fn enforce<S: FacilityStore>(s: &mut S, c: Call) -> Outcome
+    ensures value { result ≡ query (S.facility s.old) c }
+    ensures becomes { S.becomes s.old s.new (after (S.facility s.old) c) }
+{
+    let number = first_number(s, c);
+    if number != 0 {
+        return Outcome::Refused { number };
+    }
+    let q = views::request(s, c);
+    let v = views::view_asked(s, q.class, c);
+    let outcome = questions::outcome_later(q, v, c);
+    changes::make(s, outcome.number(), q.class, v, c);
+    outcome
+}
+
+// The same by value: the facility after a call, and what the call came to.
+pub fn enforced(f: Facility, c: Call) -> Enforced
     ensures { result ≡ enforce f c }
 {
-    let v = view_of(f, c);
-    let outcome = questions::outcome_in(v, c);
-    let facility = f.changed(effects::change_by(outcome.number(), v, c));
+    let mut facility = f;
+    let outcome = enforce(&mut facility, c);
     Enforced { facility, outcome }
 }

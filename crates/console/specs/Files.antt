@@ -33,14 +33,14 @@ pub record WholeFile (bytes : List ℕ) (total : ℕ) (said : ℤ) : Type 0 wher
 -- the bytes between two places, as they are kept for the next read: three of them from the first place on, and how many of these there are
 abbrev pub kept_from : List ℕ → ℕ → ℕ → Kept
 kept_from bytes from to =
-    record { count = to - from; first = at bytes from; second = at bytes (from + 1); third = at bytes (from + 2) }
+    record { count = to - from; bytes = at bytes from ∷ at bytes (from + 1) ∷ at bytes (from + 2) ∷ [] }
 
 abbrev pub nothing_kept : Kept
 nothing_kept = kept_from [] 0 0
 
 -- the bytes that are kept
 unfoldable pub kept_bytes : Kept → List ℕ
-kept_bytes k = take k.count (k.first ∷ k.second ∷ k.third ∷ [])
+kept_bytes k = take k.count (take 3 k.bytes)
 
 -- and those that stand in front of a buffer, which has to have room for a call
 abbrev pub kept_in : Kept → List ℕ → List ℕ

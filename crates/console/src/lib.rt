@@ -3,7 +3,7 @@
 // error.
 #![tactic(auto)]
 
-ghost use Rattle.std.specs.Prelude.{◌≤◌, ◌+◌, min, ◌≡◌, length, take};
+ghost use Rattle.std.specs.Prelude.{◌≤◌, ◌<◌, ◌+◌, min, ◌≡◌, IfSome, length, take};
 ghost use Rattle.io.specs.Counts.{IsPrefixLen};
 ghost use Rattle.rules.specs.Setup.{read_setup};
 ghost use Rattle.console.specs.Files.{CallsRead, WholeFile, kept_from, kept_in, nothing_kept};
@@ -13,7 +13,7 @@ use rules::Reading;
 use std::fmt::InlineText;
 use std::io::{Eprint, Error, ErrorKind, Print, Read};
 use std::rt::Files;
-use std::{fs, thread};
+use std::{array, fs, thread};
 
 // More than a program can try: a proved loop has to end.
 const TRIES: u64 = 1 << 53;
@@ -37,13 +37,11 @@ pub struct SetupRead {
     pub said: isize,
 }
 
-// The bytes of a call that is not whole yet: how many there are, at most three, and each of them.
+// The bytes of a call that is not whole yet: how many of the three count.
 #[derive(Clone, Copy)]
 pub struct Kept {
     pub count: usize,
-    pub first: u8,
-    pub second: u8,
-    pub third: u8,
+    pub bytes: [u8; 3],
 }
 
 // Before the first read nothing is kept.
@@ -52,9 +50,7 @@ pub fn nothing_kept() -> Kept
 {
     Kept {
         count: 0,
-        first: 0,
-        second: 0,
-        third: 0,
+        bytes: [0; 3],
     }
 }
 
@@ -116,24 +112,26 @@ fn is_failure(said: isize) -> bool
     said < 0
 }
 
-// Reads what there is, and answers how many bytes it put at the start of the buffer, 0 at the end of the input, or -1 where it failed, which is told.
-fn read_some<R: Eprint, S: Read>(rt: &R, source: &mut S, what: &str, bytes: &mut [u8]) -> isize
-    ensures { Moved (length bytes.old) result }
+// Reads what there is, and answers how many bytes it put at the start of the buffer, 0 at the end of the input; `None` where it failed, which is told.
+fn read_some<R: Eprint, S: Read>(
+    rt: &R,
+    source: &mut S,
+    what: &str,
+    bytes: &mut [u8],
+) -> Option<usize>
+    ensures { IfSome result (λ n. n ≤ length bytes.old) }
 {
-    let mut k: u64 = 0;
-    while k < TRIES {
+    for _ in 0..TRIES {
         match source.read(bytes) {
-            Ok(got) => return got as isize,
+            Ok(got) => return Some(got),
+            Err(error) if again(&error) => {}
             Err(error) => {
-                if !again(&error) {
-                    fail(rt, what, &error);
-                    return -1;
-                }
+                fail(rt, what, &error);
+                return None;
             }
         }
-        k += 1;
     }
-    -1
+    None
 }
 
 // Reads what there is behind the first bytes of the buffer, which are kept.
@@ -147,15 +145,21 @@ fn read_behind<R: Eprint, S: Read>(
     ensures prefix_len { IsPrefixLen result.total bytes.new }
     ensures total_value { result.total ≡ min kept (length bytes.new) + bytes_said result.said }
     ensures bytes_unchanged { take kept bytes.new ≡ take kept bytes.old }
+    ensures moved { Moved (length bytes.old) result.said }
 {
     let n = bytes.len();
     if kept >= n {
         return Got { total: n, said: 0 };
     }
-    let said = read_some(rt, source, what, &mut bytes[kept..]);
-    Got {
-        total: kept + io::count(said, &bytes[kept..]),
-        said,
+    match read_some(rt, source, what, &mut bytes[kept..]) {
+        Some(got) => Got {
+            total: kept + got,
+            said: got as isize,
+        },
+        None => Got {
+            total: kept,
+            said: -1,
+        },
     }
 }
 
@@ -167,10 +171,8 @@ fn put_kept(bytes: &mut [u8], kept: Kept) -> usize
     if bytes.len() < 4 {
         return 0;
     }
-    bytes[0] = kept.first;
-    bytes[1] = kept.second;
-    bytes[2] = kept.third;
-    labels::least(kept.count, 3)
+    bytes[..3].copy_from_slice(&kept.bytes);
+    kept.count.min(3)
 }
 
 // The bytes between two places, at most three.
@@ -180,9 +182,7 @@ fn kept_from(bytes: &[u8], from: usize, to: usize) -> Kept
 {
     Kept {
         count: to - from,
-        first: labels::at(bytes, from),
-        second: labels::at(bytes, from + 1),
-        third: labels::at(bytes, from + 2),
+        bytes: array::from_fn(|i| labels::at(bytes, from + i)),
     }
 }
 
@@ -222,8 +222,7 @@ fn read_whole<R: Eprint, S: Read>(rt: &R, source: &mut S, what: &str, bytes: &mu
     ensures { WholeFile bytes.new result.total result.said }
 {
     let mut total: usize = 0;
-    let mut k: u64 = 0;
-    while k < TRIES {
+    for _ in 0..TRIES {
         let got = read_behind(rt, source, what, bytes, total);
         let said = got.said;
         if is_failure(said) {
@@ -233,7 +232,6 @@ fn read_whole<R: Eprint, S: Read>(rt: &R, source: &mut S, what: &str, bytes: &mu
             return got;
         }
         total = got.total;
-        k += 1;
     }
     Got { total: 0, said: -1 }
 }
@@ -273,28 +271,25 @@ pub fn read_setup<R: Files + Eprint>(rt: &R, bytes: &mut [u8]) -> SetupRead
     }
 }
 
-// Writes what it can of a text, and answers how many bytes; none where it failed.
-fn write_some<R: Print + Eprint>(rt: &R, text: &[u8]) -> usize
-    ensures { result ≤ length text.now }
+// Writes what it can of a text, and answers how many bytes; `None` where it failed, which is told.
+fn write_some<R: Print + Eprint>(rt: &R, text: &[u8]) -> Option<usize>
+    ensures { IfSome result (λ n. (0 < n) × (n ≤ length text.now)) }
 {
-    let mut k: u64 = 0;
-    while k < TRIES {
+    for _ in 0..TRIES {
         match rt.write_some(text) {
             Ok(0) => {
                 let _ = eprintln!(rt; "standard output: No space left on device");
-                return 0;
+                return None;
             }
-            Ok(put) => return put,
+            Ok(put) => return Some(put),
+            Err(error) if again(&error) => {}
             Err(error) => {
-                if !again(&error) {
-                    fail(rt, "standard output", &error);
-                    return 0;
-                }
+                fail(rt, "standard output", &error);
+                return None;
             }
         }
-        k += 1;
     }
-    0
+    None
 }
 
 // Writes all lines, or as many bytes as the system takes.
@@ -304,10 +299,9 @@ pub fn write_lines<R: Print + Eprint>(rt: &R, text: &[u8]) -> Written
 {
     let mut taken: usize = 0;
     while taken < text.len() {
-        let put = write_some(rt, &text[taken..]);
-        if put == 0 {
+        let Some(put) = write_some(rt, &text[taken..]) else {
             return Written { taken, all: false };
-        }
+        };
         taken += put;
     }
     Written { taken, all: true }

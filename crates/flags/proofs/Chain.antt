@@ -1,5 +1,5 @@
 -- The chain of parents, step by step as the loops go up it.
-use Prim.Native.Nat.{ℕ, ◌-◌, ◌≤◌, ◌<◌}
+use Prim.Native.Nat.{ℕ, ◌+◌, ◌-◌, ◌≤◌, ◌<◌}
 use mathlib.Core.Path.{◌≡◌, refl, sym, ◌∙◌, ap}
 use mathlib.Core.Logic.{◌≢◌}
 use mathlib.Core.Bool.{Bool, true, false, cond}
@@ -67,6 +67,13 @@ rest_more x v n z =
     (ap without_no_delete (effective_rest x (n - 1)) ∙ and_or f r 251 ∙ ap (bit_or (without_no_delete f)) (rest_without x (inherits_from x (n - 1)))) in
     ap (bit_or v) e ∙ or_assoc v (without_no_delete f) r
 
+pub rest_some : (x : Objects) (v i : ℕ)
+    → bit_or v (rest x (i + 1)) ≡ bit_or (bit_or v (without_no_delete (flags_of x i))) (rest x (inherits_from x i))
+rest_some x v i =
+    let e : i + 1 - 1 ≡ i = omega arith in
+    rest_more x v (i + 1) (λ z. absurd (omega arith))
+    ∙ ap (λ j. bit_or (bit_or v (without_no_delete (flags_of x j))) (rest x (inherits_from x j))) e
+
 -- a flag's source: here, further up, or none
 pub source_here : (x : Objects) (t m : ℕ) → has m (flags_of x t) ≡ true → t ≡ flag_source x t m
 source_here x t m h = sym (source_is x t m ∙ rw h)
@@ -77,6 +84,12 @@ unfolding inherits_from
 source_up x t m h z =
     source_is x t m
     ∙ by_test (inherits x t) (λ i. rw (h, i)) (λ i. absurd (z (rw i refl)))
+
+pub source_some : (x : Objects) (t m i : ℕ) → has m (flags_of x t) ≡ false → i + 1 ≡ inherits_from x t
+    → flag_source x t m ≡ flag_source x i (without_no_delete m)
+source_some x t m i h e =
+    let k : inherits_from x t - 1 ≡ i = omega (arith, e) in
+    source_up x t m h (λ z. absurd (omega (arith, e, z))) ∙ ap (λ j. flag_source x j (without_no_delete m)) k
 
 pub source_none : (x : Objects) (t m : ℕ) → has m (flags_of x t) ≡ false → inherits_from x t ≡ 0 → no_object ≡ flag_source x t m
 unfolding inherits_from

@@ -1,3 +1,3 @@
--- Definitions beside document 02's: the lists that the code is lent, and laws of them.
+-- Definitions beside document 02's: objects of which three lists are known, and laws of them.
 pub mod Lists
 pub mod Laws

@@ -1,11 +1,13 @@
 // File flags: what an object inherits, where a flag comes from, and what flags forbid.
 #![tactic(auto)]
 
-ghost use Rattle.std.specs.Prelude.{cond, ◌≡◌};
-ghost use Rattle.labels.specs.Decisions.{on};
+ghost use Rattle.std.specs.Prelude.{◌≡◌};
 ghost use Rattle.rules.specs.FileFlags.{effective, flag_source, forbidding, has};
-ghost use Rattle.flags.specs.Lists.{flagged, inherits_from};
+ghost use Rattle.rules.specs.Modules.{flags_seen};
+ghost use Rattle.flags.specs.Lists.{inherits_from, number_plus_1};
+ghost use Rattle.state.specs.State.{objects_in};
 
+use in_place::FacilityStore;
 use rules::Class;
 
 // The flags, each a bit of an object's byte.
@@ -29,69 +31,58 @@ pub fn has(m: u8, v: u8) -> bool
     (v & m) != 0
 }
 
-// The parent that object t inherits from, as its number plus 1; 0 where it inherits from none.
-fn inherits_from<'a>(lives: &'a [u8], flags: &'a [u8], parents: &'a [u8], t: usize) -> u8
-    ensures { result ≡ inherits_from (flagged lives.now flags.now parents.now) t }
+// The object that object t inherits from.
+fn inherits_from<S: FacilityStore>(s: &S, t: u8) -> Option<u8>
+    ensures { number_plus_1 result ≡ inherits_from (objects_in (S.facility s.now)) t }
 {
-    let n = labels::at(parents, t);
-    if n == 0 {
-        return 0;
+    let own = s.object(t);
+    if own.parent == 0 || t < own.parent {
+        return None;
     }
-    if t < (n as usize) {
-        return 0;
+    let parent = own.parent - 1;
+    if has(ADD_INHERITED, own.flags) & (s.object(parent).live == 1) {
+        return Some(parent);
     }
-    let own = labels::at(flags, t);
-    let live = labels::at(lives, (n - 1) as usize);
-    if has(ADD_INHERITED, own) & (live == 1) {
-        return n;
-    }
-    0
+    None
 }
 
-// The effective flags of object t, out of the arrays of a facility, which are lent: up the chain as far as each object inherits.
-pub fn effective_at<'a>(lives: &'a [u8], flags: &'a [u8], parents: &'a [u8], t: usize) -> u8
-    ensures { result ≡ effective (flagged lives.now flags.now parents.now) t }
+// The effective flags of object t: up the chain as far as each object inherits.
+pub fn effective<S: FacilityStore>(s: &S, t: u8) -> u8
+    ensures { result ≡ effective (objects_in (S.facility s.now)) t }
 {
-    let mut v = labels::at(flags, t);
-    let mut from = inherits_from(lives, flags, parents, t);
-    while 0 < from {
-        let i = (from - 1) as usize;
-        let own = labels::at(flags, i);
-        v = v | (own & WITHOUT_NO_DELETE);
-        from = inherits_from(lives, flags, parents, i);
+    let mut v = s.object(t).flags;
+    let mut from = inherits_from(s, t);
+    while let Some(i) = from {
+        v |= s.object(i).flags & WITHOUT_NO_DELETE;
+        from = inherits_from(s, i);
     }
     v
 }
 
 // What FF looks at: the effective flags of object t where it is on, so that a facility without it does not pay for a chain.
-pub fn seen_at<'a>(ff: u8, lives: &'a [u8], flags: &'a [u8], parents: &'a [u8], t: usize) -> u8
-    ensures { result ≡ cond (on ff) (effective (flagged lives.now flags.now parents.now) t) 0 }
+pub fn seen<S: FacilityStore>(s: &S, t: u8) -> u8
+    ensures { result ≡ flags_seen (S.facility s.now) t }
 {
-    if ff == 1 {
-        return effective_at(lives, flags, parents, t);
+    if s.switches().ff == 1 {
+        return effective(s, t);
     }
     0
 }
 
 // The object whose own flag it is that object t has; 255 where t has none of it.
-pub fn source_at<'a>(lives: &'a [u8], flags: &'a [u8], parents: &'a [u8], t: u8, flag: u8) -> u8
-    ensures { result ≡ flag_source (flagged lives.now flags.now parents.now) t flag }
+pub fn source<S: FacilityStore>(s: &S, t: u8, flag: u8) -> u8
+    ensures { result ≡ flag_source (objects_in (S.facility s.now)) t flag }
 {
     let mut i = t;
     let mut m = flag;
-    let mut from = inherits_from(lives, flags, parents, t as usize);
-    while 0 < from {
-        if has(m, labels::at(flags, i as usize)) {
-            return i;
-        }
-        i = from - 1;
-        m = m & WITHOUT_NO_DELETE;
-        from = inherits_from(lives, flags, parents, i as usize);
+    while !has(m, s.object(i).flags) {
+        let Some(parent) = inherits_from(s, i) else {
+            return answers::NO_OBJECT;
+        };
+        i = parent;
+        m &= WITHOUT_NO_DELETE;
     }
-    if has(m, labels::at(flags, i as usize)) {
-        return i;
-    }
-    answers::NO_OBJECT
+    i
 }
 
 // The first flag among v that forbids a request of class k on an object of a kind; 0 where none does.

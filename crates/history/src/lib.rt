@@ -11,6 +11,9 @@ ghost use Rattle.rules.specs.Matter.{holds};
 use matter::Ledger;
 use state::{Call, Facility};
 
+// How many bytes a call has.
+pub const CALL: usize = 4;
+
 // The call that begins at byte i; a byte past the end is 0.
 pub fn call_at(calls: &[u8], i: usize) -> Call
     ensures { result ≡ call_from calls.now i }
@@ -35,15 +38,9 @@ pub fn call_at(calls: &[u8], i: usize) -> Call
 pub fn replay(setup: &[u8], calls: &[u8]) -> Facility
     ensures { result ≡ replayed setup.now calls.now }
 {
-    let n = calls.len();
-    let reading = setup::read_setup(setup);
-    let mut f = reading.facility;
-    let mut i: usize = 0;
-    while n - i >= 4 {
-        let c = call_at(calls, i);
-        let enforced = calls::enforce(f, c);
-        f = enforced.facility;
-        i += 4;
+    let mut f = setup::read_setup(setup).facility;
+    for k in 0..calls.len() / CALL {
+        calls::enforce(&mut f, call_at(calls, CALL * k));
     }
     f
 }
@@ -52,19 +49,12 @@ pub fn replay(setup: &[u8], calls: &[u8]) -> Facility
 pub fn account(setup: &[u8], calls: &[u8]) -> Ledger
     ensures { result ≡ ledger_of setup.now (calls_of calls.now) }
 {
-    let n = calls.len();
-    let reading = setup::read_setup(setup);
-    let mut f = reading.facility;
-    let kinds = f.kinds;
-    let mut l = Ledger::start(f.entered, kinds);
-    let mut i: usize = 0;
-    while 4 <= n - i {
-        let call = call_at(calls, i);
-        i += 4;
-        let enforced = calls::enforce(f, call);
-        let outcome = enforced.outcome;
-        l = l.step(call, outcome.number() == 0);
-        f = enforced.facility;
+    let mut f = setup::read_setup(setup).facility;
+    let mut l = Ledger::start(f.entered, f.kinds);
+    for k in 0..calls.len() / CALL {
+        let c = call_at(calls, CALL * k);
+        let outcome = calls::enforce(&mut f, c);
+        l = l.step(c, outcome.number() == 0);
     }
     l
 }
@@ -73,6 +63,5 @@ pub fn account(setup: &[u8], calls: &[u8]) -> Ledger
 pub fn holds(setup: &[u8], calls: &[u8], x: u8, c: u8) -> bool
     ensures { result ≡ holds setup.now (calls_of calls.now) x c }
 {
-    let l = account(setup, calls);
-    l.object_holds(x, c)
+    account(setup, calls).object_holds(x, c)
 }

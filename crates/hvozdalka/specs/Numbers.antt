@@ -3,11 +3,9 @@ use Rattle.std.specs.Prelude.{ℕ, cond, List, ◌≡◌, eqb}
 use Rattle.std.proofs.Common.{sym, ◌∙◌, ap}
 use Rattle.state.specs.declared.Call.{Call}
 use Rattle.state.specs.declared.Facility.{Facility}
-use Rattle.answers.specs.declared.SetupOutcome.{SetupOutcome}
-use Rattle.answers.specs.declared.WriteOutcome.{WriteOutcome}
 use Rattle.state.specs.State.{opens_of}
 use Rattle.opens.specs.Opens.{add_modes}
-use Rattle.answers.specs.Outcomes.{outcome_numbers, setup_number, setup_index, write_number, write_length}
+use Rattle.answers.specs.Outcomes.{SetupOutcome, WriteOutcome, outcome_numbers, setup_number, setup_index, write_number, write_length}
 use Rattle.rules.specs.declared.Enforced.{Enforced}
 use Rattle.rules.specs.declared.Reading.{Reading}
 use Rattle.rules.specs.Lines.{calls_of}

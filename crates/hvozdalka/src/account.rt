@@ -4,21 +4,20 @@ ghost use Rattle.matter.specs.LedgerSteps.{held_by, start_of, step_of};
 ghost use Rattle.hvozdalka.specs.Numbers.{call_of, held_numbers, replay_numbers};
 
 use crate::setups::numbers_of;
-use crate::{Held, SeatedCall, SetupReading, call_of};
+use crate::{Held, SeatedCall, SetupNumbers, SetupReading};
 use matter::Ledger;
-use state::Facility;
+use state::{Call, Facility};
 
 // The facility of a set-up after calls of four bytes each, and what the set-up came to.
 #[unsafe(no_mangle)]
 pub extern "C" fn hv_replay(setup: &[u8], calls: &[u8]) -> SetupReading
     ensures { result ≡ replay_numbers setup.now calls.now }
 {
-    let numbers = numbers_of(setup);
-    let facility = history::replay(setup, calls);
+    let SetupNumbers { number, index } = numbers_of(setup);
     SetupReading {
-        facility,
-        number: numbers.number,
-        index: numbers.index,
+        facility: history::replay(setup, calls),
+        number,
+        index,
     }
 }
 
@@ -27,12 +26,11 @@ pub extern "C" fn hv_replay(setup: &[u8], calls: &[u8]) -> SetupReading
 pub extern "C" fn hv_holds(setup: &[u8], calls: &[u8], x: u8, c: u8) -> Held
     ensures { result ≡ held_numbers setup.now calls.now x c }
 {
-    let numbers = numbers_of(setup);
-    let holds = history::holds(setup, calls, x, c);
+    let SetupNumbers { number, index } = numbers_of(setup);
     Held {
-        holds,
-        number: numbers.number,
-        index: numbers.index,
+        holds: history::holds(setup, calls, x, c),
+        number,
+        index,
     }
 }
 
@@ -41,15 +39,14 @@ pub extern "C" fn hv_holds(setup: &[u8], calls: &[u8], x: u8, c: u8) -> Held
 pub extern "C" fn hv_account_start(f: Facility) -> Ledger
     ensures { result ≡ start_of f.entered f.kinds }
 {
-    let kinds = f.kinds;
-    Ledger::start(f.entered, kinds)
+    Ledger::start(f.entered, f.kinds)
 }
 
 #[unsafe(no_mangle)]
 pub extern "C" fn hv_account_step(l: Ledger, c: SeatedCall, accepted: bool) -> Ledger
     ensures { result ≡ step_of l (call_of c) accepted }
 {
-    l.step(call_of(c), accepted)
+    l.step(Call::from(c), accepted)
 }
 
 #[unsafe(no_mangle)]

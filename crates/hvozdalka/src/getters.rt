@@ -6,6 +6,8 @@ ghost use Rattle.rules.specs.Histories.{moves_bound};
 ghost use Rattle.state.specs.State.{clearance_of, object_of, objects_in, process_of, refusals_of, user_of};
 
 use crate::Summary;
+use crate::getters_at::{open_marks, summary_of};
+use in_place::FacilityStore;
 use state::{Facility, Object, Process, User};
 
 #[unsafe(no_mangle)]
@@ -33,49 +35,40 @@ pub extern "C" fn hv_object(f: Facility, t: u8) -> Object
 pub extern "C" fn hv_open_marks(f: Facility, p: u8, t: u8) -> u8
     ensures { result ≡ open_marks f p t }
 {
-    let marks = labels::at(&f.opens, opens::mark_place(p, t) as usize);
-    opens::add_modes(marks, 0)
+    open_marks(&f, p, t)
 }
 
 #[unsafe(no_mangle)]
 pub extern "C" fn hv_refusals(f: Facility, u: u8) -> u32
     ensures { result ≡ refusals_of f u }
 {
-    labels::word_at(&f.refusals, u as usize)
+    f.refusals(u)
 }
 
 #[unsafe(no_mangle)]
 pub extern "C" fn hv_most_moves(f: Facility, u: u8) -> u32
     ensures { result ≡ moves_bound (clearance_of f u) }
 {
-    let user = f.user(u);
-    user.clearance.most_moves()
+    f.user(u).clearance.most_moves()
 }
 
 #[unsafe(no_mangle)]
 pub extern "C" fn hv_effective_flags(f: Facility, t: u8) -> u8
     ensures { result ≡ effective (objects_in f) t }
 {
-    flags::effective_at(&f.lives, &f.flags, &f.parents, t as usize)
+    flags::effective(&f, t)
 }
 
 #[unsafe(no_mangle)]
 pub extern "C" fn hv_flag_source(f: Facility, t: u8, flag: u8) -> u8
     ensures { result ≡ flag_source (objects_in f) t flag }
 {
-    flags::source_at(&f.lives, &f.flags, &f.parents, t, flag)
+    flags::source(&f, t, flag)
 }
 
 #[unsafe(no_mangle)]
 pub extern "C" fn hv_summary(f: Facility) -> Summary
     ensures { result ≡ summary_of f }
 {
-    Summary {
-        mac: f.mac,
-        fc: f.fc,
-        sim: f.sim,
-        users: f.users,
-        entered: f.entered,
-        ff: f.ff,
-    }
+    summary_of(&f)
 }

@@ -68,6 +68,14 @@ pub struct SetupWriting {
     pub number: u8,
 }
 
+// A facility after calls that are printed, and how many bytes their lines have.
+#[repr(C)]
+#[derive(Clone, Copy)]
+pub struct Printed {
+    pub facility: Facility,
+    pub length: usize,
+}
+
 // Switches, and how many users there are and objects were entered.
 #[repr(C)]
 #[derive(Clone, Copy)]
@@ -92,14 +100,15 @@ fn number_at(seat: u8, process: u8) -> u8
     NO_SUCH_PROCESS
 }
 
-fn call_of(c: SeatedCall) -> Call
-    ensures { result ≡ call_of c }
-{
-    let process = number_at(c.seat, c.process);
-    Call {
-        request: c.request,
-        process,
-        target: c.target,
-        extra: c.extra,
+impl From<SeatedCall> for Call {
+    ghost from_gives = { λ c r. r ≡ call_of c };
+
+    fn from(c: SeatedCall) -> Call {
+        Call {
+            request: c.request,
+            process: number_at(c.seat, c.process),
+            target: c.target,
+            extra: c.extra,
+        }
     }
 }

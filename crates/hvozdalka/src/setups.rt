@@ -6,19 +6,22 @@ ghost use Rattle.in_place.specs.Stores.{Becomes};
 ghost use Rattle.rules.specs.Setup.{read_setup, write_setup};
 
 use crate::{SetupNumbers, SetupReading, SetupWriting};
-use answers::{SetupOutcome, WriteOutcome};
+use answers::{NoRoom, SetupOutcome, SetupRefusal, WriteOutcome};
+use rules::Reading;
 use state::Facility;
 
 // Number and index of what a set-up came to.
-fn setup_numbers(o: SetupOutcome) -> SetupNumbers
-    ensures { result ≡ setup_numbers o }
-{
-    match o {
-        SetupOutcome::Accepted => SetupNumbers {
-            number: 0,
-            index: 0,
-        },
-        SetupOutcome::Refused { number, index } => SetupNumbers { number, index },
+impl From<SetupOutcome> for SetupNumbers {
+    ghost from_gives = { λ o r. r ≡ setup_numbers o };
+
+    fn from(o: SetupOutcome) -> SetupNumbers {
+        match o {
+            Ok(()) => SetupNumbers {
+                number: 0,
+                index: 0,
+            },
+            Err(SetupRefusal { number, index }) => SetupNumbers { number, index },
+        }
     }
 }
 
@@ -26,20 +29,21 @@ fn setup_numbers(o: SetupOutcome) -> SetupNumbers
 pub(crate) fn numbers_of(bytes: &[u8]) -> SetupNumbers
     ensures { result ≡ setup_numbers (read_setup bytes.now).outcome }
 {
-    let reading = setup::read_setup(bytes);
-    let outcome = reading.outcome;
-    setup_numbers(outcome)
+    SetupNumbers::from(setup::read_setup(bytes).outcome)
 }
 
-fn writing_numbers(w: WriteOutcome) -> SetupWriting
-    ensures { result ≡ writing_numbers w }
-{
-    match w {
-        WriteOutcome::Written { length } => SetupWriting { length, number: 0 },
-        WriteOutcome::NoRoom => SetupWriting {
-            length: 0,
-            number: 18,
-        },
+// Number and length of what writing one came to.
+impl From<WriteOutcome> for SetupWriting {
+    ghost from_gives = { λ w r. r ≡ writing_numbers w };
+
+    fn from(w: WriteOutcome) -> SetupWriting {
+        match w {
+            Ok(length) => SetupWriting { length, number: 0 },
+            Err(NoRoom) => SetupWriting {
+                length: 0,
+                number: 18,
+            },
+        }
     }
 }
 
@@ -50,7 +54,7 @@ pub extern "C" fn hv_read_setup_at(bytes: &[u8], f: &mut [u8; in_place::SIZE]) -
     ensures value { result ≡ setup_numbers (read_setup bytes.now).outcome }
     ensures becomes { Becomes f.old f.new (read_setup bytes.now).facility }
 {
-    setup_numbers(setup_in_place::read_in(bytes, f))
+    SetupNumbers::from(setup::read_in(f, bytes))
 }
 
 // Writes the set-up of a facility where it is into a lent buffer. Number 0 and the length, or 18 and 0 where the buffer is too short, and then it is
@@ -60,7 +64,7 @@ pub extern "C" fn hv_write_setup_at(f: &[u8; in_place::SIZE], out: &mut [u8]) ->
     ensures value { result ≡ writing_numbers (write_setup (facility_at f.now) out.old).outcome }
     ensures out_after { out.new ≡ (write_setup (facility_at f.now) out.old).buffer }
 {
-    writing_numbers(in_place::write_in(f, out))
+    SetupWriting::from(writer::write_setup(f, out))
 }
 
 // The same, with the facility by value.
@@ -68,20 +72,12 @@ pub extern "C" fn hv_write_setup_at(f: &[u8; in_place::SIZE], out: &mut [u8]) ->
 pub extern "C" fn hv_read_setup(bytes: &[u8]) -> SetupReading
     ensures { result ≡ reading_numbers (read_setup bytes.now) }
 {
-    let reading = setup::read_setup(bytes);
-    let facility = reading.facility;
-    let outcome = reading.outcome;
-    match outcome {
-        SetupOutcome::Accepted => SetupReading {
-            facility,
-            number: 0,
-            index: 0,
-        },
-        SetupOutcome::Refused { number, index } => SetupReading {
-            facility,
-            number,
-            index,
-        },
+    let Reading { outcome, facility } = setup::read_setup(bytes);
+    let SetupNumbers { number, index } = SetupNumbers::from(outcome);
+    SetupReading {
+        facility,
+        number,
+        index,
     }
 }
 
@@ -91,5 +87,5 @@ pub extern "C" fn hv_write_setup(f: Facility, out: &mut [u8]) -> SetupWriting
     ensures value { result ≡ writing_numbers (write_setup f out.old).outcome }
     ensures out_after { out.new ≡ (write_setup f out.old).buffer }
 {
-    writing_numbers(writer::write_setup(f, out))
+    SetupWriting::from(writer::write_setup(&f, out))
 }

@@ -10,10 +10,9 @@ ghost use Rattle.names.specs.Words.{answer_word, category_word, data_type_word, 
 ghost use Rattle.words.specs.Sentences.{sentence, setup_sentence};
 ghost use Rattle.words.specs.Short.{short_sentence};
 
-use crate::{SeatedCall, call_of};
+use crate::{Printed, SeatedCall};
 use labels::Label;
-use lines::Printed;
-use state::Facility;
+use state::{Call, Facility};
 
 // The lines of the run program for a block of calls, on a facility where it is: its bytes become those of the facility after the block, and the padding
 // stays. How many bytes the lines have.
@@ -27,7 +26,7 @@ pub extern "C" fn hv_put_block_at(
     ensures stored { Stored out.old 0 (block_text first (facility_at f.old) calls.now) out.new result }
     ensures becomes { Becomes f.old f.new (facility_after first (facility_at f.old) calls.now) }
 {
-    lines::put_block_in(f, first, calls, out)
+    lines::put_block(f, first, calls, out)
 }
 
 // The same of a facility by value.
@@ -36,7 +35,9 @@ pub extern "C" fn hv_put_block(f: Facility, first: u64, calls: &[u8], out: &mut 
     ensures stored { Stored out.old 0 (block_text first f calls.now) out.new result.length }
     ensures facility_value { result.facility ≡ facility_after first f calls.now }
 {
-    lines::put_block(f, first, calls, out)
+    let mut facility = f;
+    let length = lines::put_block(&mut facility, first, calls, out);
+    Printed { facility, length }
 }
 
 // Enforces a call on a facility where it is, and stores its line in words, the full one or the short one, at the start of the buffer: how many bytes the
@@ -51,7 +52,7 @@ pub extern "C" fn hv_put_words_at(
     ensures stored { Stored out.old 0 (sentence index (facility_at f.old) (call_of c)) out.new result }
     ensures becomes { Becomes f.old f.new (after (facility_at f.old) (call_of c)) }
 {
-    words::tell_in(f, index, call_of(c), out, 0)
+    words::tell(f, index, Call::from(c), out, 0)
 }
 
 #[unsafe(no_mangle)]
@@ -64,7 +65,7 @@ pub extern "C" fn hv_put_short_words_at(
     ensures stored { Stored out.old 0 (short_sentence index (facility_at f.old) (call_of c)) out.new result }
     ensures becomes { Becomes f.old f.new (after (facility_at f.old) (call_of c)) }
 {
-    words::tell_short_in(f, index, call_of(c), out, 0)
+    words::tell_short(f, index, Call::from(c), out, 0)
 }
 
 // The same of a facility by value: the facility after the call, and how many bytes the line has.
@@ -78,8 +79,8 @@ pub extern "C" fn hv_put_words(
     ensures stored { Stored out.old 0 (sentence index f (call_of c)) out.new result.length }
     ensures facility_value { result.facility ≡ after f (call_of c) }
 {
-    let mut length: usize = 0;
-    let facility = words::tell(f, index, call_of(c), out, &mut length);
+    let mut facility = f;
+    let length = words::tell(&mut facility, index, Call::from(c), out, 0);
     Printed { facility, length }
 }
 
@@ -93,8 +94,8 @@ pub extern "C" fn hv_put_short_words(
     ensures stored { Stored out.old 0 (short_sentence index f (call_of c)) out.new result.length }
     ensures facility_value { result.facility ≡ after f (call_of c) }
 {
-    let mut length: usize = 0;
-    let facility = words::tell_short(f, index, call_of(c), out, &mut length);
+    let mut facility = f;
+    let length = words::tell_short(&mut facility, index, Call::from(c), out, 0);
     Printed { facility, length }
 }
 

@@ -1,26 +1,27 @@
 -- The changes of a facility, as stores into its bytes.
-use Prim.Native.Nat.{ℕ, ◌+◌, ◌≤◌, ◌<◌, ◌*◌}
+use Prim.Native.Nat.{ℕ, ◌+◌, ◌≤◌, ◌<◌, min}
 use mathlib.Core.Path.{◌≡◌, ap, refl, ◌∙◌, sym}
 use mathlib.Core.List.{List}
 use lib.ListN.{set, length, drop, length-take, length-drop}
 use lib.Seq.{get_or-set_same}
 use native.Mathlib.Omega.{arith}
-use borrow.Author.Tests.{lt-ltb, le-ltb}
+use lib.Dec.{ltb}
+use borrow.Author.Tests.{lt-ltb, le-ltb, ltb-true, ltb-false}
 use Rattle.state.specs.declared.Process.{Process}
 use Rattle.state.specs.State.{put_process, put_opens, changed, no_process, terminated, process_of, cloned, drop_object, deleted, users_in, objects_from}
-use Rattle.state.specs.State.{users_from, objects_in, processes_in, with, put_user, add_user, put_object, add_object, put_refusals, most_refusals, most_users}
-use Rattle.state.specs.State.{refusals_of, counted}
+use Rattle.state.specs.State.{users_from, objects_in, processes_in, with, put_user, add_user, put_object, add_object, most_refusals, most_users, one_more}
+use Rattle.state.specs.State.{counted}
 use Rattle.in_place.specs.Layout.{field_of, facility_of, facility_at}
 use Rattle.in_place.specs.Layout.{size, offset, the_opens, whole_size, the_lives, the_categories, the_datatypes, the_kinds, the_levels}
 use Rattle.in_place.specs.Layout.{the_entered, the_refusals, the_flags, the_parents, the_sets, the_users}
 use Rattle.in_place.specs.Layout.{the_clearances, the_roles, the_trusts, the_clearancesets}
-use Rattle.in_place.specs.Stores.{store_field, store_in, Becomes, store_user, store_process, store_object, padding_in}
+use Rattle.in_place.specs.Stores.{store_in, Becomes, store_user, store_process, store_object, padding_in}
 use Rattle.state.specs.declared.Facility.{Facility}
 use Rattle.in_place.proofs.Stored.{stored}
-use Rattle.in_place.proofs.Words.{words_stored, words_length}
-use Rattle.state.specs.Laws.ReadBack.{counted_stays, counted_none}
-use Rattle.opens.specs.Opens.{most_opens, most_objects, close_process, copy_process, close_object}
-use Rattle.state.specs.declared.Change.{Change}
+use Rattle.labels.proofs.Laws.Decisions.{by_test}
+use Rattle.in_place.proofs.Words.{words_length}
+use Rattle.state.specs.Laws.ReadBack.{counted_none}
+use Rattle.opens.specs.Opens.{most_objects, close_process, copy_process, close_object}
 use Rattle.labels.specs.Decisions.{at}
 use Rattle.state.specs.declared.Object.{Object}
 use Rattle.state.specs.declared.User.{User}
@@ -49,40 +50,12 @@ field_length s k h =
     let b = length-drop (offset k) s in
     omega arith
 
-pub opens_length : (s : List ℕ) → length s ≡ whole_size → length (facility_at s).opens ≡ most_opens
-unfolding facility_at
-opens_length s h = field_length s the_opens (omega arith)
-
--- what is made of the bytes one after the other
-pub becomes_then : (s m q : List ℕ) (f : Facility) (F : Facility → Facility) → Becomes s m f → Becomes m q (F (facility_at m)) → Becomes s q (F f)
-becomes_then s m q f F a b = (b.0 ∙ ap F a.0, b.1 ∙ a.1)
-
--- the same change
-pub becomes_by : (s m : List ℕ) (x y : Change) → x ≡ y → Becomes s m (changed (facility_at s) y) → Becomes s m (changed (facility_at s) x)
-becomes_by s m x y e b = (b.0 ∙ ap (changed (facility_at s)) (sym e), b.1)
-
--- a terminated process, a clone, a deleted object
-pub terminated_is : (s m q : List ℕ) (p : ℕ) (r : Process) → r ≡ no_process → Becomes s m (put_process (facility_at s) p r)
-    → Becomes m q (put_opens (facility_at m) (close_process (facility_at m).opens p)) → Becomes s q (terminated (facility_at s) p)
-unfolding put_process
-terminated_is s m q p r d a b =
-    becomes_then s m q _ (λ x. put_opens x (close_process x.opens p)) (a.0 ∙ ap (put_process (facility_at s) p) d, a.1) b
-
-pub cloned_is : (s m q : List ℕ) (p t : ℕ) (r : Process) → r ≡ process_of (facility_at s) p → Becomes s m (put_process (facility_at s) t r)
-    → Becomes m q (put_opens (facility_at m) (copy_process (facility_at m).opens p t)) → Becomes s q (cloned (facility_at s) p t)
-unfolding put_process
-cloned_is s m q p t r d a b =
-    becomes_then s m q _ (λ x. put_opens x (copy_process x.opens p t)) (a.0 ∙ ap (put_process (facility_at s) t) d, a.1) b
-
-dropped_is : (m q : List ℕ) (t : ℕ) → q ≡ store_in m (offset the_lives) (size the_lives) t 0 → Becomes m q (drop_object (facility_at m) t)
+-- a deleted object
+pub dropped_is : (m q : List ℕ) (t : ℕ) → q ≡ store_in m (offset the_lives) (size the_lives) t 0 → Becomes m q (drop_object (facility_at m) t)
 unfolding facility_at drop_object
 dropped_is m q t h =
     let e = stored m q (field_of m) the_lives t 0 refl h in
     (ap (λ (g : ℕ → List ℕ). facility_of g) e, ap padding_in e)
-
-pub deleted_is : (s m q : List ℕ) (t : ℕ) → Becomes s m (put_opens (facility_at s) (close_object (facility_at s).opens t))
-    → q ≡ store_in m (offset the_lives) (size the_lives) t 0 → Becomes s q (deleted (facility_at s) t)
-deleted_is s m q t a h = becomes_then s m q _ (λ x. drop_object x t) a (dropped_is m q t h)
 
 -- a user more, and an object more
 at_first : (l : List ℕ) (v : ℕ) → length l ≡ 1 → at (set l 0 v) 0 ≡ v
@@ -143,24 +116,13 @@ full_is s o n e b =
     rw (le-ltb (at (field_of s the_entered) 0) most_objects w)
 
 -- the counters
-pub refusals_put : (s m : List ℕ) (u a b c d n : ℕ) → length s ≡ whole_size → u < most_users → field_of m ≡ store_field
-    (store_field (store_field (store_field (field_of s) the_refusals (4 * u) a) the_refusals (4 * u + 1) b) the_refusals (4 * u + 2) c)
-    the_refusals (4 * u + 3) d
-    → a + 256 * b + 65536 * c + 16777216 * d ≡ n → facility_at m ≡ put_refusals (facility_at s) (set (facility_at s).refusals u n)
-unfolding facility_at put_refusals
-refusals_put s m u a b c d n l v e h =
-    ap (λ (g : ℕ → List ℕ). facility_of g) e
-    ∙ ap (put_refusals (facility_of (field_of s))) (words_stored (field_of s the_refusals) u a b c d n (field_length s the_refusals (omega arith)) v h)
-
-pub counted_is : (s m : List ℕ) (u n : ℕ) → n ≡ refusals_of (facility_at s) u → n < most_refusals
-    → facility_at m ≡ put_refusals (facility_at s) (set (facility_at s).refusals u (n + 1)) → facility_at m ≡ counted (facility_at s) u
-unfolding counted
-counted_is s m u n e b h =
-    let w : refusals_of (facility_at s) u < most_refusals = omega arith in
-    h ∙ ap (λ (k : ℕ). put_refusals (facility_at s) (set (facility_at s).refusals u (k + 1))) e ∙ rw (lt-ltb (refusals_of (facility_at s) u) most_refusals w)
-
-pub stays_is : (s : List ℕ) (u n : ℕ) → n ≡ refusals_of (facility_at s) u → most_refusals ≤ n → facility_at s ≡ counted (facility_at s) u
-stays_is s u n e b = sym (counted_stays (facility_at s) u (omega arith))
+pub one_more_is : (n r : ℕ) → n ≡ r → n < 4294967296 → min (n + 1) most_refusals ≡ one_more most_refusals r
+one_more_is n r e h =
+    let p : min (n + 1) most_refusals ≡ one_more most_refusals n =
+    by_test (ltb n most_refusals)
+    (λ t. let w = ltb-true n most_refusals t in rw t (omega arith))
+    (λ t. let w = ltb-false n most_refusals t in rw t (omega arith)) in
+    p ∙ ap (one_more most_refusals) e
 
 pub none_is : (s : List ℕ) (u : ℕ) → most_users ≤ u → facility_at s ≡ counted (facility_at s) u
 unfolding facility_at

@@ -1,11 +1,11 @@
 -- Bytes that are cleared from one field to another are those fields cleared; all but the paddings cleared is the blank facility.
-use Prim.Native.Nat.{ℕ, ◌+◌, ◌<◌, ◌≤◌}
+use Prim.Native.Nat.{ℕ, zero, suc, ◌+◌, ◌-◌, ◌<◌, ◌≤◌}
 use mathlib.Core.Bool.{true, false, cond}
 use mathlib.Core.Path.{◌≡◌, ◌∙◌, ap, sym, fun_ext}
-use mathlib.Core.List.{List}
+use mathlib.Core.List.{List, ◌++◌}
 use lib.Dec.{leb, ltb}
-use lib.ListN.{length, set, length-set, length-replicate, replicate, drop, length-take, length-drop}
-use lib.Seq.{get_or-set_same, get_or-set_other, ext_get_or}
+use lib.ListN.{length, set, length-set, length-replicate, replicate, take, drop, length-take, length-drop}
+use lib.Seq.{get_or-set_same, get_or-set_other, ext_get_or, sets}
 use native.Mathlib.Omega.{arith}
 use borrow.Author.Tests.{le-leb, lt-leb, lt-ltb, le-ltb, ltb-true, ltb-false}
 use Rattle.labels.specs.Decisions.{◌and◌, at}
@@ -17,9 +17,13 @@ use Rattle.state.specs.declared.Switches.{Switches}
 use Rattle.state.specs.State.{blank}
 use Rattle.in_place.specs.Layout.{part, size, offset, field_of, facility_of, facility_at, the_mac, the_fc, the_sim, the_ff, the_refusals, the_padding}
 use Rattle.in_place.specs.Layout.{the_last_padding}
-use Rattle.in_place.specs.Stores.{Becomes, cleared, padding_in, store_field}
+use Rattle.in_place.specs.Stores.{Becomes, padding_in, store_field}
 use Rattle.in_place.proofs.BytesOfParts.{byte_in}
-use Rattle.in_place.proofs.Stored.{before}
+use Rattle.in_place.proofs.Stored.{before, put_back}
+
+-- the bytes from a place to another become 0
+cleared : List ℕ → ℕ → ℕ → List ℕ
+cleared s from to = build (length s) (λ i. cond (leb from i and ltb i to) 0 (at s i))
 
 -- the test of a number between two
 inside : (a b i : ℕ) → a ≤ i → i < b → (leb a i and ltb i b) ≡ true
@@ -33,7 +37,7 @@ above : (a b i : ℕ) → b ≤ i → (leb a i and ltb i b) ≡ false
 unfolding ◌and◌
 above a b i h = by_test (leb a i) (λ t. rw (t, le-ltb i b h)) (λ t. rw t)
 
-pub length_cleared : (s : List ℕ) (from to : ℕ) → length (cleared s from to) ≡ length s
+length_cleared : (s : List ℕ) (from to : ℕ) → length (cleared s from to) ≡ length s
 unfolding cleared
 length_cleared s from to = length_build (length s) _
 
@@ -42,7 +46,7 @@ unfolding cleared
 at_cleared s from to i h = at_build (length s) _ i h
 
 -- one after the other
-pub cleared_none : (s : List ℕ) (from : ℕ) → s ≡ cleared s from from
+cleared_none : (s : List ℕ) (from : ℕ) → s ≡ cleared s from from
 cleared_none s from =
     ext_get_or 0 s (cleared s from from) (sym (length_cleared s from from))
     (λ i h.
@@ -50,7 +54,7 @@ cleared_none s from =
     by_test (ltb i from) (λ t. below from from i (ltb-true i from t)) (λ t. above from from i (ltb-false i from t)) in
     sym (at_cleared s from from i h ∙ rw e))
 
-pub cleared_more : (s : List ℕ) (from i : ℕ) → from ≤ i → i < length s → set (cleared s from i) i 0 ≡ cleared s from (i + 1)
+cleared_more : (s : List ℕ) (from i : ℕ) → from ≤ i → i < length s → set (cleared s from i) i 0 ≡ cleared s from (i + 1)
 cleared_more s from i f h =
     let n = length_cleared s from i in
     ext_get_or 0 (set (cleared s from i) i 0) (cleared s from (i + 1)) (length-set (cleared s from i) i 0 ∙ n ∙ sym (length_cleared s from (i + 1)))
@@ -65,6 +69,14 @@ cleared_more s from i f h =
     (λ t. let w = ltb-true j i t in rw (t, lt-ltb j (i + 1) (omega arith)))
     (λ t. let w = ltb-false j i t in rw (t, le-ltb j (i + 1) (omega arith)))
     ∙ sym (at_cleared s from (i + 1) j k)))
+
+cleared_on : (s : List ℕ) (from i k : ℕ) → from ≤ i → i + k ≤ length s → sets (cleared s from i) i (replicate k 0) ≡ cleared s from (i + k)
+cleared_on s from i zero f h = let e : i ≡ i + 0 = omega arith in ap (cleared s from) e
+cleared_on s from i (suc k) f h =
+    let e : i + 1 + k ≡ i + suc k = omega arith in
+    let z : suc i ≡ i + 1 = omega arith in
+    ap (λ (m : List ℕ). sets m (suc i) (replicate k 0)) (cleared_more s from i f (omega arith))
+    ∙ ap (λ (j : ℕ). sets (cleared s from (i + 1)) j (replicate k 0)) z ∙ cleared_on s from (i + 1) k (omega arith) (omega arith) ∙ ap (cleared s from) e
 
 -- a part of which no byte is cleared, and one of which each is
 length_part : (s : List ℕ) (x y from n : ℕ) → length (part (cleared s x y) from n) ≡ length (part s from n)
@@ -127,10 +139,25 @@ field_cleared s a b j h l =
     let w = up_to b j q in
     rw (above a b j q) (part_kept s (offset a) (offset b) (offset j) (size j) (λ i k. above (offset a) (offset b) (offset j + i) (omega arith)))))
 
-pub fields_cleared : (s m : List ℕ) (g : ℕ → List ℕ) (a b : ℕ) → field_of s ≡ g → a ≤ b → offset b ≤ length s → m ≡ cleared s (offset a) (offset b)
-    → field_of m ≡ clear_fields g a b
-fields_cleared s m g a b e h l z =
-    ap (λ (x : List ℕ). field_of x) z ∙ fun_ext (λ j. field_cleared s a b j h l) ∙ ap (λ (x : ℕ → List ℕ). clear_fields x a b) e
+-- the fields after bytes from one to another were lent and came back filled with 0
+filled : (s l : List ℕ) (a k : ℕ) → a + k ≤ length s → l ≡ replicate (length (part s a k)) 0
+    → take a s ++ (l ++ drop k (drop a s)) ≡ cleared s a (a + k)
+filled s l a k h e =
+    let x = length-take k (drop a s) in
+    let y = length-drop a s in
+    let n : length (part s a k) ≡ k = omega arith in
+    let z : l ≡ replicate k 0 = e ∙ ap (λ (j : ℕ). replicate j 0) n in
+    let w : length l ≡ k = ap length z ∙ length-replicate {A = ℕ} k 0 in
+    put_back s l a k (sym w) h ∙ ap (sets s a) z ∙ ap (λ (m : List ℕ). sets m a (replicate k 0)) (cleared_none s a)
+    ∙ cleared_on s a a k (omega arith) h
+
+pub fields_filled : (s l : List ℕ) (g : ℕ → List ℕ) (a b p k : ℕ) → field_of s ≡ g → p ≡ offset a → k ≡ offset b - offset a → a ≤ b → offset b ≤ length s
+    → l ≡ replicate (length (part s p k)) 0 → field_of (take p s ++ (l ++ drop k (drop p s))) ≡ clear_fields g a b
+fields_filled s l g a b p k e x y h w z =
+    let u = up_to a b h in
+    let q : p + k ≡ offset b = omega arith in
+    ap field_of (filled s l p k (omega arith) z ∙ (λ i. cleared s (x i) (q i)))
+    ∙ fun_ext (λ j. field_cleared s a b j h w) ∙ ap (λ (m : ℕ → List ℕ). clear_fields m a b) e
 
 -- all but the paddings cleared, and the switches stored
 pub blank_is : (s m : List ℕ) (w : Switches)

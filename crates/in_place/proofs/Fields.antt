@@ -1,36 +1,36 @@
--- A field that is stored whole, and so the opens; and what `Becomes` promises fixes every byte.
-use Prim.Native.Nat.{ℕ, suc, ◌+◌, ◌≤◌, ◌<◌}
+-- A field that is stored whole, and so the opens, and a counter; and what `Becomes` promises fixes every byte.
+use Prim.Native.Nat.{ℕ, suc, ◌+◌, ◌*◌, ◌≤◌, ◌<◌}
 use mathlib.Core.Bool.{cond}
-use mathlib.Core.List.{List, ◌∷◌, [], ◌++◌, append-nil, append_assoc}
+use mathlib.Core.List.{List, ◌∷◌, [], ◌++◌, append-nil}
 use mathlib.Core.Path.{◌≡◌, refl, ◌∙◌, ap, fun_ext, sym, ap₂}
 use lib.Dec.{eqb, ltb}
-use lib.Seq.{sets, sets-eq, take-add, drop-drop}
+use lib.Seq.{sets, sets-eq, take-add}
 use lib.ListN.{length, drop_of_length-le, take, take-append-drop, drop}
 use native.Mathlib.Omega.{arith}
 use borrow.Author.Tests.{eq-eqb, ne_eqb, ltb-true, ltb-false}
 use Rattle.labels.proofs.Laws.Decisions.{by_eq, by_test}
 use Rattle.in_place.specs.Stores.{store_field, store_in, padding_in, Becomes}
 use Rattle.in_place.specs.Layout.{size, offset, field_of, whole_size, the_refusals, facility_at, the_mac, the_fc, the_sim, the_users, the_entered}
-use Rattle.in_place.specs.Layout.{facility_of, the_opens, the_padding, the_clearances, the_roles, the_trusts, the_lives, the_kinds, the_levels}
+use Rattle.in_place.specs.Layout.{facility_of, words, the_opens, the_padding, the_clearances, the_roles, the_trusts, the_lives, the_kinds, the_levels}
 use Rattle.in_place.specs.Layout.{the_categories, the_datatypes, the_runnings, the_owners, the_currents, the_readmarks, the_writemarks, the_automatics}
 use Rattle.in_place.specs.Layout.{the_ff, the_flags, the_parents, the_moves, the_clearancesets, the_sets, the_currentsets, the_readsets, the_writesets}
 use Rattle.in_place.specs.Layout.{the_last_padding}
-use Rattle.in_place.proofs.Stored.{store_inside, stored}
+use Rattle.in_place.proofs.Stored.{put_back, store_inside, stored}
 use Rattle.in_place.specs.Fields.{BecomesUnique}
 use Rattle.in_place.proofs.Changed.{field_length}
-use Rattle.in_place.proofs.Words.{same_words}
+use Rattle.in_place.proofs.Words.{four_sets, same_words, words_stored}
 use Rattle.labels.specs.Decisions.{at}
 use Rattle.in_place.proofs.BytesOfParts.{byte_in, byte_past}
 use Rattle.state.specs.declared.Facility.{Facility}
 use Rattle.opens.specs.Opens.{most_opens}
-use Rattle.state.specs.State.{put_opens}
+use Rattle.state.specs.State.{counted, most_refusals, most_users, one_more, put_opens, put_refusals, refusals_of}
 
 -- the fields with the bytes of field k from its byte i on replaced, and with all of it replaced
 abbrev put_bytes : (ℕ → List ℕ) → ℕ → ℕ → List ℕ → ℕ → List ℕ
 put_bytes g k i l j = cond (eqb j k) (sets (g k) i l) (g j)
 
-one_more : (g : ℕ → List ℕ) (k i x : ℕ) (xs : List ℕ) (j : ℕ) → put_bytes (store_field g k i x) k (suc i) xs j ≡ put_bytes g k i (x ∷ xs) j
-one_more g k i x xs j = by_eq j k (λ e. rw (eq-eqb j k e, eq-eqb k k refl)) (λ e. rw (ne_eqb j k e))
+more_put : (g : ℕ → List ℕ) (k i x : ℕ) (xs : List ℕ) (j : ℕ) → put_bytes (store_field g k i x) k (suc i) xs j ≡ put_bytes g k i (x ∷ xs) j
+more_put g k i x xs j = by_eq j k (λ e. rw (eq-eqb j k e, eq-eqb k k refl)) (λ e. rw (ne_eqb j k e))
 
 bytes_put : (l s : List ℕ) (k i : ℕ) → i + length l ≤ size k → field_of (sets s (offset k + i) l) ≡ put_bytes (field_of s) k i l
 bytes_put [] s k i h = fun_ext (λ j. by_eq j k (λ e. rw (eq-eqb j k e) (ap (field_of s) e)) (λ e. rw (ne_eqb j k e)))
@@ -41,7 +41,7 @@ bytes_put (x ∷ xs) s k i h =
     ∙ ap (λ (n : ℕ). field_of (sets m n xs)) q
     ∙ bytes_put xs m k (suc i) (omega arith)
     ∙ ap (λ (g : ℕ → List ℕ). put_bytes g k (suc i) xs) (stored s m (field_of s) k i x refl refl)
-    ∙ fun_ext (λ j. one_more (field_of s) k i x xs j)
+    ∙ fun_ext (λ j. more_put (field_of s) k i x xs j)
 
 all_set : (l o : List ℕ) → length l ≡ length o → sets o 0 l ≡ l
 all_set l o h =
@@ -154,14 +154,30 @@ becomes_unique s m n f a b p q =
     ∙ all_taken n whole_size (omega arith)
 
 -- the opens are lent, and come back changed
-pub opens_lent : (s l : List ℕ) → length s ≡ whole_size → length l ≡ most_opens
-    → Becomes s (take (offset the_opens) s ++ (l ++ drop most_opens (drop (offset the_opens) s))) (put_opens (facility_at s) l)
+pub opens_lent : (g : List ℕ → List ℕ) (s l : List ℕ) (a k : ℕ) → ((o : List ℕ) → length (g o) ≡ length o) → a ≡ offset the_opens → k ≡ most_opens
+    → length s ≡ whole_size → l ≡ g (take k (drop a s)) → Becomes s (take a s ++ (l ++ drop k (drop a s))) (put_opens (facility_at s) (g (facility_at s).opens))
 unfolding facility_at put_opens
-opens_lent s l n e =
-    let k : offset the_opens + length l ≡ offset the_opens + most_opens = ap (λ (x : ℕ). offset the_opens + x) e in
-    let h : take (offset the_opens) s ++ (l ++ drop most_opens (drop (offset the_opens) s)) ≡ sets s (offset the_opens) l =
-    ap (λ (r : List ℕ). take (offset the_opens) s ++ (l ++ r)) (drop-drop most_opens (offset the_opens) s ∙ ap (λ (x : ℕ). drop x s) (sym k))
-    ∙ sym (append_assoc (take (offset the_opens) s) l (drop (offset the_opens + length l) s))
-    ∙ sym (sets-eq l s (offset the_opens) (omega (arith, n, e))) in
-    let a = field_stored s _ l the_opens (omega (arith, n)) e h in
-    (ap (λ (g : ℕ → List ℕ). facility_of g) a, ap padding_in a)
+opens_lent g s l a k kept x y n h =
+    let o = field_of s the_opens in
+    let e : l ≡ g o = h ∙ (λ i. g (take (y i) (drop (x i) s))) in
+    let w : length l ≡ most_opens = ap length e ∙ kept o ∙ field_length s the_opens (omega (arith, n)) in
+    let m = put_back s l a k (y ∙ sym w) (omega (arith, x, y, n)) ∙ (λ i. sets s (x i) (e i)) in
+    let f = field_stored s _ (g o) the_opens (omega (arith, n)) (sym (ap length e) ∙ w) m in
+    (ap (λ (z : ℕ → List ℕ). facility_of z) f, ap padding_in f)
+
+-- the four bytes of a counter are lent, and come back with one more refusal
+pub count_lent : (s l : List ℕ) (p k u n a b c d : ℕ) → p ≡ offset the_refusals + 4 * u → k ≡ 4 → length s ≡ whole_size → u < most_users
+    → l ≡ a ∷ b ∷ c ∷ d ∷ [] → a + 256 * b + 65536 * c + 16777216 * d ≡ n → n ≡ one_more most_refusals (refusals_of (facility_at s) u)
+    → Becomes s (take p s ++ (l ++ drop k (drop p s))) (counted (facility_at s) u)
+unfolding facility_at put_refusals counted
+count_lent s l p k u n a b c d x e w h f v o =
+    let four : length l ≡ 4 = ap length f in
+    let m = put_back s l p k (e ∙ sym four) (omega (arith, x, w, h, e)) ∙ ap (λ (i : ℕ). sets s i l) x in
+    let g = ap field_of m ∙ bytes_put l s the_refusals (4 * u) (omega (arith, h, four)) in
+    let r = words_stored (field_of s the_refusals) u a b c d _ (field_length s the_refusals (omega (arith, w))) h (v ∙ o) in (
+      ap (λ (y : ℕ → List ℕ). facility_of y) g
+          ∙ ap (λ (y : List ℕ). put_refusals (facility_of (field_of s)) (words (sets (field_of s the_refusals) (4 * u) y))) f
+          ∙ ap (λ (y : List ℕ). put_refusals (facility_of (field_of s)) (words y)) (four_sets (field_of s the_refusals) (4 * u) a b c d)
+          ∙ ap (put_refusals (facility_of (field_of s))) r,
+      ap padding_in g,
+    )

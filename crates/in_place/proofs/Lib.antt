@@ -5,4 +5,3 @@ pub mod Words
 pub mod Changed
 pub mod Cleared
 pub mod Fields
-pub mod Seen

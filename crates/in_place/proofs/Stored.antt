@@ -1,11 +1,11 @@
 -- A store changes one field.
 use Prim.Native.Nat.{ℕ, ◌+◌, ◌<◌, ◌≤◌, zero, suc, ◌-◌}
 use mathlib.Core.Path.{◌≡◌, sym, ◌∙◌, ap, fun_ext, refl}
-use mathlib.Core.List.{List}
+use mathlib.Core.List.{List, ◌++◌, append_assoc}
 use mathlib.Core.Logic.{◌≢◌}
-use lib.ListN.{set, length, length-set, drop, length-take, length-drop}
+use lib.ListN.{set, length, length-set, take, drop, length-take, length-drop}
 use lib.Dec.{ltb}
-use lib.Seq.{set_out, get_or-set_same, get_or-set_other, ext_get_or}
+use lib.Seq.{set_out, get_or-set_same, get_or-set_other, ext_get_or, sets, sets-eq, drop-drop}
 use native.Mathlib.Omega.{arith}
 use borrow.Author.Tests.{lt-ltb, le-ltb, eq-eqb, ne_eqb, ltb-true, ltb-false}
 use Rattle.in_place.specs.Stores.{store_in, store_field, padding, padding_in}
@@ -20,15 +20,6 @@ store_inside s from n i v h = rw (lt-ltb i n h)
 pub store_past : (s : List ℕ) (from n i v : ℕ) → n ≤ i → s ≡ store_in s from n i v
 unfolding store_in
 store_past s from n i v h = rw (le-ltb i n h)
-
-pub store_short : (s : List ℕ) (from n i v : ℕ) → length s ≤ from + i → s ≡ store_in s from n i v
-unfolding store_in
-store_short s from n i v h =
-    by_test (ltb i n) (λ t. rw t (sym (set_out s (from + i) v h))) (λ t. rw t)
-
-pub length_store : (s : List ℕ) (from n i v : ℕ) → length (store_in s from n i v) ≡ length s
-unfolding store_in
-length_store s from n i v = by_test (ltb i n) (λ t. rw t (length-set s (from + i) v)) (λ t. rw t)
 
 -- a part of the bytes after a store within it, and outside it
 length_part : (s : List ℕ) (q v from n : ℕ) → length (part (set s q v) from n) ≡ length (part s from n)
@@ -105,3 +96,10 @@ padding_entered s m i v h = ap padding_in (stored s m (field_of s) the_entered i
 
 pub padding_fields : (s m : List ℕ) (g : ℕ → List ℕ) → field_of m ≡ g → padding_in g ≡ padding s → padding m ≡ padding s
 padding_fields s m g e h = ap padding_in e ∙ h
+
+-- what comes back of bytes that are lent, as stores one after the other
+pub put_back : (s l : List ℕ) (a k : ℕ) → k ≡ length l → a + k ≤ length s → take a s ++ (l ++ drop k (drop a s)) ≡ sets s a l
+put_back s l a k e h =
+    ap (λ (r : List ℕ). take a s ++ (l ++ r)) (drop-drop k a s ∙ ap (λ (x : ℕ). drop (a + x) s) e)
+    ∙ sym (append_assoc (take a s) l (drop (a + length l) s))
+    ∙ sym (sets-eq l s a (omega (arith, e, h)))

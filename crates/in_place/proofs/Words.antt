@@ -1,23 +1,32 @@
 -- Numbers of four bytes each, one behind the other.
-use Prim.Native.Nat.{ℕ, ◌+◌, ◌*◌, ◌/◌, ◌%◌, ◌<◌}
-use mathlib.Core.Path.{◌≡◌, ◌∙◌, ap, sym}
+use Prim.Native.Nat.{ℕ, zero, suc, ◌+◌, ◌*◌, ◌/◌, ◌%◌, ◌<◌}
+use mathlib.Core.Path.{◌≡◌, ◌∙◌, ap, refl, sym}
 use mathlib.Core.Bool.{cond}
-use mathlib.Core.List.{List}
+use mathlib.Core.List.{List, ◌∷◌, []}
 use mathlib.Core.Logic.{◌≢◌}
 use lib.Dec.{eqb}
-use lib.ListN.{length, set, length-set}
-use lib.Seq.{get_or-set_same, get_or-set_other, ext_get_or}
+use lib.ListN.{length, set, length-set, get_or, take, drop}
+use lib.Seq.{get_or-set_same, get_or-set_other, ext_get_or, drop-drop, sets}
 use native.Mathlib.Omega.{arith}
 use borrow.Author.Tests.{eq-eqb, ne_eqb}
 use Rattle.labels.specs.Decisions.{at}
 use Rattle.labels.proofs.Laws.Decisions.{by_eq}
 use Rattle.opens.specs.Laws.Opens.{length_build, at_build}
 use Rattle.state.specs.State.{most_users}
-use Rattle.in_place.specs.Layout.{word_at, words}
+use Rattle.std.specs.Simd.{first_chunks}
+use Rattle.in_place.specs.Layout.{part, word_at, words}
+use Rattle.in_place.proofs.BytesOfParts.{byte_in}
 
 -- four bytes from place i on
 abbrev pub four : List ℕ → ℕ → ℕ → ℕ → ℕ → ℕ → List ℕ
 four l i a b c d = set (set (set (set l i a) (i + 1) b) (i + 2) c) (i + 3) d
+
+pub four_sets : (l : List ℕ) (i a b c d : ℕ) → sets l i (a ∷ b ∷ c ∷ d ∷ []) ≡ four l i a b c d
+four_sets l i a b c d =
+    let p : suc i ≡ i + 1 = omega arith in
+    let q : suc (suc i) ≡ i + 2 = omega arith in
+    let r : suc (suc (suc i)) ≡ i + 3 = omega arith in
+    λ j. set (set (set (set l i a) (p j) b) (q j) c) (r j) d
 
 module _ (l : List ℕ) (i a b c d : ℕ) where
   one : List ℕ
@@ -81,10 +90,26 @@ words_length l = length_build most_users (word_at l)
 pub words_at : (l : List ℕ) (u : ℕ) → u < most_users → at (words l) u ≡ word_at l u
 words_at l u h = at_build most_users (word_at l) u h
 
--- the number of user u, of its four bytes
-pub word_read : (l : List ℕ) (u a b c d : ℕ) → u < most_users → a ≡ at l (4 * u) → b ≡ at l (4 * u + 1) → c ≡ at l (4 * u + 2) → d ≡ at l (4 * u + 3)
-    → a + 256 * b + 65536 * c + 16777216 * d ≡ at (words l) u
-word_read l u a b c d h p q r s = (λ i. p i + 256 * q i + 65536 * r i + 16777216 * s i) ∙ sym (words_at l u h)
+-- a chunk of four bytes, and the number of user u that it is
+chunk_at : (k u : ℕ) (l d : List ℕ) → u < k → get_or (first_chunks 4 k l) u d ≡ part l (4 * u) 4
+chunk_at zero u l d h = absurd (omega arith)
+chunk_at (suc k) zero l d h = refl
+chunk_at (suc k) (suc u) l d h =
+    let e : 4 + 4 * u ≡ 4 * suc u = omega arith in
+    chunk_at k u (drop 4 l) d (omega arith) ∙ ap (take 4) (drop-drop (4 * u) 4 l ∙ ap (λ (n : ℕ). drop n l) e)
+
+pub chunk_read : (l b d : List ℕ) (k u n : ℕ) → u < k → u < most_users → b ≡ get_or (first_chunks 4 k l) u d
+    → n ≡ at b 0 + at b 1 * 256 + at b 2 * 65536 + at b 3 * 16777216 → n ≡ at (words l) u
+chunk_read l b d k u n x h e f =
+    let o : (i : ℕ) → i < 4 → at b i ≡ at l (4 * u + i) =
+    λ i y. ap (λ (c : List ℕ). at c i) (e ∙ chunk_at k u l d x) ∙ sym (byte_in l (4 * u) 4 i y) in
+    let m : 4 * u + 0 ≡ 4 * u = omega arith in
+    let z = o 0 (omega arith) ∙ ap (at l) m in
+    let p = o 1 (omega arith) in
+    let q = o 2 (omega arith) in
+    let r = o 3 (omega arith) in
+    let w : n ≡ word_at l u = omega (arith, f, z, p, q, r) in
+    w ∙ sym (words_at l u h)
 
 pub words_stored : (l : List ℕ) (u a b c d n : ℕ) → length l ≡ 4 * most_users → u < most_users → a + 256 * b + 65536 * c + 16777216 * d ≡ n
     → words (four l (4 * u) a b c d) ≡ set (words l) u n

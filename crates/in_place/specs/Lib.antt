@@ -2,4 +2,4 @@
 pub mod Layout
 pub mod Stores
 pub mod Fields
-pub mod Seen
+pub mod Becoming

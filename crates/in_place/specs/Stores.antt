@@ -1,5 +1,5 @@
 -- Stores into the bytes of a facility: each changes one field.
-use Rattle.std.specs.Prelude.{ℕ, ◌+◌, cond, List, ◌++◌, ◌≡◌, leb, ltb, eqb, length, set}
+use Rattle.std.specs.Prelude.{ℕ, ◌+◌, cond, List, ◌++◌, ◌≡◌, ltb, eqb, set}
 use Rattle.in_place.specs.Layout.{field_of, the_padding, the_last_padding, facility_at, the_categories, the_datatypes, the_kinds, the_levels, the_lives}
 use Rattle.in_place.specs.Layout.{the_clearances, the_roles, the_trusts, the_clearancesets, the_flags, the_parents}
 use Rattle.in_place.specs.Layout.{the_runnings, the_owners, the_currents, the_readmarks, the_writemarks, the_automatics, the_moves}
@@ -8,16 +8,10 @@ use Rattle.state.specs.declared.Process.{Process}
 use Rattle.state.specs.declared.Facility.{Facility}
 use Rattle.state.specs.declared.Object.{Object}
 use Rattle.state.specs.declared.User.{User}
-use Rattle.labels.specs.Decisions.{◌and◌, at}
-use Rattle.opens.specs.Opens.{build}
 
 -- byte i of the n bytes from a place on becomes v; nothing where there is no such byte
 unfoldable pub store_in : List ℕ → ℕ → ℕ → ℕ → ℕ → List ℕ
 store_in s from n i v = cond (ltb i n) (set s (from + i) v) s
-
--- the bytes from a place to another become 0
-unfoldable pub cleared : List ℕ → ℕ → ℕ → List ℕ
-cleared s from to = build (length s) (λ i. cond (leb from i and ltb i to) 0 (at s i))
 
 -- the fields with one store
 abbrev pub store_field : (ℕ → List ℕ) → ℕ → ℕ → ℕ → ℕ → List ℕ

@@ -1,76 +1,126 @@
 // Where each field of a facility stands in its bytes: one behind the other, in the order of the struct.
-pub(crate) const USER_COUNT: u16 = state::USERS as u16;
+ghost use Rattle.std.specs.Prelude.{◌-◌, ◌≡◌, ◌≤◌};
+ghost use Rattle.in_place.specs.Layout.{part, whole_size};
+ghost use Rattle.in_place.specs.Stores.{store_in};
+ghost use Rattle.labels.specs.Decisions.{at};
 
-pub(crate) const PROCESS_COUNT: u16 = opens::PROCESSES as u16;
+// A field: so many bytes before its end.
+#[derive(Clone, Copy)]
+pub(crate) struct Field {
+    pub end: usize,
+    pub count: usize,
+    pub ghost inside: { (count ≤ end) × (end ≤ whole_size) },
+}
 
-pub(crate) const OBJECT_COUNT: u16 = opens::OBJECTS as u16;
+impl Field {
+    pub(crate) fn start(self) -> usize
+        ensures { result ≡ self.end - self.count }
+    {
+        self.end - self.count
+    }
 
-pub(crate) const MAC: u16 = 0;
+    // Its bytes, lent to those who know them.
+    pub(crate) fn of(self, s: &[u8; SIZE]) -> &[u8]
+        ensures { result.now ≡ part s.now (self.end - self.count) self.count }
+    {
+        &s[self.start()..self.end]
+    }
 
-pub(crate) const FC: u16 = MAC + 1;
+    // Its byte i; 0 where it has no such byte.
+    pub(crate) fn byte(self, s: &[u8; SIZE], i: usize) -> u8
+        ensures { result ≡ at (part s.now (self.end - self.count) self.count) i }
+    {
+        labels::at(self.of(s), i)
+    }
 
-pub(crate) const SIM: u16 = FC + 1;
+    // Its byte i becomes v; nothing where it has no such byte.
+    pub(crate) fn put(self, s: &mut [u8; SIZE], i: usize, v: u8)
+        ensures { s.new ≡ store_in s.old (self.end - self.count) self.count i v }
+    {
+        if i < self.count {
+            s[self.start() + i] = v;
+        }
+    }
+}
 
-pub(crate) const USERS: u16 = SIM + 1;
+// The field behind another.
+macro_rules! behind {
+    ($before:ident, $count:expr) => {
+        Field {
+            end: $before.end + $count,
+            count: $count,
+        }
+    };
+}
 
-pub(crate) const CLEARANCES: u16 = USERS + 1;
+const PROCESSES: usize = opens::PROCESSES as usize;
 
-pub(crate) const ROLES: u16 = CLEARANCES + USER_COUNT;
+const OBJECTS: usize = opens::OBJECTS as usize;
 
-pub(crate) const TRUSTS: u16 = ROLES + USER_COUNT;
+pub(crate) const MAC: Field = Field { end: 1, count: 1 };
 
-pub(crate) const ENTERED: u16 = TRUSTS + USER_COUNT;
+pub(crate) const FC: Field = behind!(MAC, 1);
 
-pub(crate) const LIVES: u16 = ENTERED + 1;
+pub(crate) const SIM: Field = behind!(FC, 1);
 
-pub(crate) const KINDS: u16 = LIVES + OBJECT_COUNT;
+pub(crate) const USERS: Field = behind!(SIM, 1);
 
-pub(crate) const LEVELS: u16 = KINDS + OBJECT_COUNT;
+pub(crate) const CLEARANCES: Field = behind!(USERS, state::USERS);
 
-pub(crate) const CATEGORIES: u16 = LEVELS + OBJECT_COUNT;
+pub(crate) const ROLES: Field = behind!(CLEARANCES, state::USERS);
 
-pub(crate) const DATATYPES: u16 = CATEGORIES + OBJECT_COUNT;
+pub(crate) const TRUSTS: Field = behind!(ROLES, state::USERS);
 
-pub(crate) const RUNNINGS: u16 = DATATYPES + OBJECT_COUNT;
+pub(crate) const ENTERED: Field = behind!(TRUSTS, 1);
 
-pub(crate) const OWNERS: u16 = RUNNINGS + PROCESS_COUNT;
+pub(crate) const LIVES: Field = behind!(ENTERED, OBJECTS);
 
-pub(crate) const CURRENTS: u16 = OWNERS + PROCESS_COUNT;
+pub(crate) const KINDS: Field = behind!(LIVES, OBJECTS);
 
-pub(crate) const READMARKS: u16 = CURRENTS + PROCESS_COUNT;
+pub(crate) const LEVELS: Field = behind!(KINDS, OBJECTS);
 
-pub(crate) const WRITEMARKS: u16 = READMARKS + PROCESS_COUNT;
+pub(crate) const CATEGORIES: Field = behind!(LEVELS, OBJECTS);
 
-pub(crate) const AUTOMATICS: u16 = WRITEMARKS + PROCESS_COUNT;
+pub(crate) const DATATYPES: Field = behind!(CATEGORIES, OBJECTS);
 
-pub(crate) const OPENS: u16 = AUTOMATICS + PROCESS_COUNT;
+pub(crate) const RUNNINGS: Field = behind!(DATATYPES, PROCESSES);
 
-pub(crate) const PADDING: u16 = OPENS + opens::PAIRS;
+pub(crate) const OWNERS: Field = behind!(RUNNINGS, PROCESSES);
+
+pub(crate) const CURRENTS: Field = behind!(OWNERS, PROCESSES);
+
+pub(crate) const READMARKS: Field = behind!(CURRENTS, PROCESSES);
+
+pub(crate) const WRITEMARKS: Field = behind!(READMARKS, PROCESSES);
+
+pub(crate) const AUTOMATICS: Field = behind!(WRITEMARKS, PROCESSES);
+
+pub(crate) const OPENS: Field = behind!(AUTOMATICS, opens::PAIRS as usize);
+
+pub(crate) const PADDING: Field = behind!(OPENS, 3);
 
 // Three bytes of padding stand before the counters, which have four bytes each.
-pub(crate) const REFUSALS: u16 = PADDING + 3;
+pub(crate) const REFUSALS: Field = behind!(PADDING, 4 * state::USERS);
 
-pub(crate) const COUNTER_BYTES: u16 = 4 * USER_COUNT;
+pub(crate) const FF: Field = behind!(REFUSALS, 1);
 
-pub(crate) const FF: u16 = REFUSALS + COUNTER_BYTES;
+pub(crate) const FLAGS: Field = behind!(FF, OBJECTS);
 
-pub(crate) const FLAGS: u16 = FF + 1;
+pub(crate) const PARENTS: Field = behind!(FLAGS, OBJECTS);
 
-pub(crate) const PARENTS: u16 = FLAGS + OBJECT_COUNT;
+pub(crate) const MOVES: Field = behind!(PARENTS, PROCESSES);
 
-pub(crate) const MOVES: u16 = PARENTS + OBJECT_COUNT;
+pub(crate) const CLEARANCE_SETS: Field = behind!(MOVES, state::USERS);
 
-pub(crate) const CLEARANCE_SETS: u16 = MOVES + PROCESS_COUNT;
+pub(crate) const SETS: Field = behind!(CLEARANCE_SETS, OBJECTS);
 
-pub(crate) const SETS: u16 = CLEARANCE_SETS + USER_COUNT;
+pub(crate) const CURRENT_SETS: Field = behind!(SETS, PROCESSES);
 
-pub(crate) const CURRENT_SETS: u16 = SETS + OBJECT_COUNT;
+pub(crate) const READ_SETS: Field = behind!(CURRENT_SETS, PROCESSES);
 
-pub(crate) const READ_SETS: u16 = CURRENT_SETS + PROCESS_COUNT;
-
-pub(crate) const WRITE_SETS: u16 = READ_SETS + PROCESS_COUNT;
-
-pub(crate) const LAST_PADDING: u16 = WRITE_SETS + PROCESS_COUNT;
+pub(crate) const WRITE_SETS: Field = behind!(READ_SETS, PROCESSES);
 
 // Three more bytes of padding end the struct, whose size is a multiple of four.
-pub(crate) const SIZE: usize = (LAST_PADDING as usize) + 3;
+pub(crate) const LAST_PADDING: Field = behind!(WRITE_SETS, 3);
+
+pub const SIZE: usize = LAST_PADDING.end;

@@ -1,7 +1,7 @@
 // Labels: what levels, marks and clearances are compared by, levels with categories; and the decisions that all other crates are made of.
 #![tactic(auto)]
 
-ghost use Rattle.std.specs.Prelude.{◌+◌, min, ◌≡◌};
+ghost use Rattle.std.specs.Prelude.{◌+◌, ◌≡◌, set};
 ghost use Rattle.labels.specs.Decisions.{ask, at};
 ghost use Rattle.labels.specs.Labels.{label, leq, same, join, meet, given, rank};
 
@@ -13,7 +13,7 @@ pub const ALL_CATEGORIES: u8 = 255;
 
 // What levels, marks and clearances are compared by. Only the operations on labels look inside.
 #[repr(C)]
-#[derive(Clone, Copy)]
+#[derive(Clone, Copy, PartialEq, Eq)]
 pub struct Label {
     pub level: u8,
     // Eight categories, a bit each.
@@ -37,7 +37,7 @@ impl Label {
     pub fn same(self, other: Label) -> bool
         ensures { result ≡ same self other }
     {
-        (self.level == other.level) & (self.set == other.set)
+        self == other
     }
 
     // The least label above both.
@@ -45,16 +45,9 @@ impl Label {
         ensures { result ≡ join self other }
     {
         let set = self.set | other.set;
-        if other.level < self.level {
-            Label {
-                level: self.level,
-                set,
-            }
-        } else {
-            Label {
-                level: other.level,
-                set,
-            }
+        Label {
+            level: self.level.max(other.level),
+            set,
         }
     }
 
@@ -63,16 +56,9 @@ impl Label {
         ensures { result ≡ meet self other }
     {
         let set = self.set & other.set;
-        if self.level <= other.level {
-            Label {
-                level: self.level,
-                set,
-            }
-        } else {
-            Label {
-                level: other.level,
-                set,
-            }
+        Label {
+            level: self.level.min(other.level),
+            set,
         }
     }
 
@@ -87,7 +73,7 @@ impl Label {
     pub fn most_moves(self) -> u32
         ensures { result ≡ rank self + 1 }
     {
-        (self.level as u32) + u8::count_ones(self.set) + 1
+        u32::from(self.level) + self.set.count_ones() + 1
     }
 }
 
@@ -95,13 +81,16 @@ impl Label {
 pub fn at(array: &[u8], i: usize) -> u8
     ensures { result ≡ at array.now i }
 {
-    if i < array.len() { array[i] } else { 0 }
+    array.get(i).copied().unwrap_or(0)
 }
 
-pub fn word_at(array: &[u32], i: usize) -> u32
-    ensures { result ≡ at array.now i }
+// Element i of an array becomes v; past its end nothing changes.
+pub fn put<T: Copy>(array: &mut [T], i: usize, v: T)
+    ensures { array.new ≡ set array.old i v }
 {
-    if i < array.len() { array[i] } else { 0 }
+    if i < array.len() {
+        array[i] = v;
+    }
 }
 
 // One of the ordered questions: yes goes on to the later ones, no gives the refusal number.
@@ -109,11 +98,4 @@ pub fn ask(yes: bool, number: u8, later: u8) -> u8
     ensures { result ≡ ask yes number later }
 {
     if yes { later } else { number }
-}
-
-// The lesser of two.
-pub fn least(a: usize, b: usize) -> usize
-    ensures { result ≡ min a b }
-{
-    if a < b { a } else { b }
 }

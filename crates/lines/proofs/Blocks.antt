@@ -1,6 +1,6 @@
 -- The lines of all blocks, one after the other, are the output of document 01.
 use Prim.Native.Nat.{ℕ, ◌+◌, ◌*◌, ◌/◌, ◌%◌, ◌≤◌, min, ◌<◌, suc}
-use mathlib.Core.Path.{◌≡◌, refl, ap, sym, ◌∙◌, subst}
+use mathlib.Core.Path.{◌≡◌, refl, ap, sym, ◌∙◌, subst, subst₂}
 use mathlib.Core.List.{List, ◌++◌, [], ◌∷◌, append_assoc, append-nil}
 use mathlib.Core.Bool.{cond}
 use lib.ListN.{length, drop, length-append}
@@ -94,6 +94,20 @@ left_goes_on o first f₀ calls out place index f i m q c a g running level l h 
     let w : after f (call_from calls i) ≡ g = sym (e ∙ ap (after f) k) in
     subst (λ (x : Facility). Left o first f₀ calls m q (index + 1) x (i + 4)) w
     (left_more o first f₀ calls out place index f i m q l h (as_text out m _ _ place q t s) (subst (λ (x : List ℕ). length x ≤ 49) t b))
+
+-- the same by the number k of the call
+pub left_next : (o : List ℕ) (first : ℕ) (f₀ : Facility) (calls out : List ℕ) (place : ℕ) (f : Facility) (k : ℕ) (m : List ℕ) (q : ℕ)
+    (c : Call) (a : Outcome) (g : Facility) (running level : ℕ)
+    → Left o first f₀ calls out place (first + k) f (4 * k) → k < length calls / 4 → c ≡ call_from calls (4 * k) → a ≡ query f c → g ≡ after f c
+    → running ≡ at g.runnings c.process → level ≡ at g.currents c.process
+    → Stored out place (line_text (first + k) c a running level) m q → length (line_text (first + k) c a running level) ≤ 49
+    → Left o first f₀ calls m q (first + (k + 1)) g (4 * (k + 1))
+left_next o first f₀ calls out place f k m q c a g running level l h r d e u v s b =
+    let t : 4 * k + 4 ≤ length calls = omega arith in
+    let i : 4 * k + 4 ≡ 4 * (k + 1) = omega arith in
+    let x : first + k + 1 ≡ first + (k + 1) = omega arith in
+    subst₂ (λ (n j : ℕ). Left o first f₀ calls m q n g j) x i
+    (left_goes_on o first f₀ calls out place (first + k) f (4 * k) m q c a g running level l t r d e u v s b)
 
 -- the bytes of a process that is read off a facility
 pub process_bytes_law : (r : Process) (f : Facility) (p : ℕ) → r ≡ process_of f p → (r.running ≡ at f.runnings p) × (r.current.level ≡ at f.currents p)

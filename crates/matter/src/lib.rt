@@ -1,9 +1,9 @@
 // The account of matter: which object numbers each object and each process holds, kept as bits of words.
 #![tactic(auto)]
 
-ghost use Rattle.std.specs.Prelude.{min, ◌≡◌, get_or};
+ghost use Rattle.std.specs.Prelude.{min, ◌≡◌};
 ghost use Rattle.matter.specs.LedgerSteps.{assigned_nothing_of, carried_of, copied_of, created_of, entered_of, held_by, is_member, members_in, merged_of};
-ghost use Rattle.matter.specs.LedgerSteps.{no_members, object_gains_of, on_object_of, only_member, process_gains_of, received_of, with_object, with_process};
+ghost use Rattle.matter.specs.LedgerSteps.{no_members, put_members, object_gains_of, on_object_of, only_member, process_gains_of, received_of, with_object, with_process};
 ghost use Rattle.matter.specs.LedgerSteps.{selves, start_of, step_of};
 ghost use Rattle.opens.specs.Opens.{most_objects};
 ghost use Rattle.rules.specs.Matter.{gives, takes};
@@ -85,21 +85,24 @@ impl Members {
     }
 }
 
-// The word of an array, 0 outside it.
-fn word(words: &[u64], i: usize) -> u64
-    ensures { result ≡ get_or words.now i 0 }
-{
-    if i < words.len() { words[i] } else { 0 }
-}
-
 // The set in row r, the empty one outside the words.
 fn row(words: &[u64], r: u8) -> Members
     ensures { result ≡ members_in words.now r }
 {
     let i = 2 * (r as usize);
-    let low = word(words, i);
-    let high = word(words, i + 1);
-    Members { low, high }
+    Members {
+        low: words.get(i).copied().unwrap_or(0),
+        high: words.get(i + 1).copied().unwrap_or(0),
+    }
+}
+
+// Row r becomes s; past the end nothing changes.
+fn put_row(words: &mut [u64], r: u8, s: Members)
+    ensures { words.new ≡ put_members words.old r s }
+{
+    let i = 2 * (r as usize);
+    labels::put(words, i, s.low);
+    labels::put(words, i + 1, s.high);
 }
 
 // Read of a file or channel, and every R but read-open.
@@ -107,11 +110,9 @@ fn takes(request: u8, k: Class) -> bool
     ensures { result ≡ takes request k }
 {
     match k {
-        Class::Absent => false,
         Class::Reads => request != rules::READ_OPEN_REQUEST,
-        Class::Writes => false,
-        Class::Both => false,
         Class::NoCondition => request == rules::READ_REQUEST,
+        _ => false,
     }
 }
 
@@ -120,23 +121,10 @@ fn gives(request: u8, k: Class) -> bool
     ensures { result ≡ gives request k }
 {
     match k {
-        Class::Absent => false,
-        Class::Reads => false,
         Class::Writes => (request != rules::WRITE_OPEN_REQUEST)
             & ((request != rules::DELETE_REQUEST) & (request != rules::CREATE_REQUEST)),
-        Class::Both => false,
         Class::NoCondition => request == rules::WRITE_REQUEST,
-    }
-}
-
-// How many object numbers there are below `entered`.
-fn numbers(entered: u8) -> u8
-    ensures { result ≡ min entered most_objects }
-{
-    if entered < opens::OBJECTS {
-        entered
-    } else {
-        opens::OBJECTS
+        _ => false,
     }
 }
 
@@ -144,16 +132,9 @@ fn numbers(entered: u8) -> u8
 fn selves(entered: u8) -> [u64; OBJECT_WORDS]
     ensures { result ≡ selves (min entered most_objects) }
 {
-    let n = numbers(entered);
     let mut words: [u64; OBJECT_WORDS] = [0; OBJECT_WORDS];
-    let mut t: u8 = 0;
-    while t < n {
-        let s = Members::only(t);
-        let low = 2 * (t as usize);
-        let high = low + 1;
-        words[low] = s.low;
-        words[high] = s.high;
-        t += 1;
+    for t in 0..entered.min(opens::OBJECTS) {
+        put_row(&mut words, t, Members::only(t));
     }
     words
 }
@@ -196,24 +177,14 @@ impl Ledger {
     fn with_object(mut self, x: u8, s: Members) -> Ledger
         ensures { result ≡ with_object self x s }
     {
-        let low = 2 * (x as usize);
-        let high = low + 1;
-        if x < opens::OBJECTS {
-            self.objects[low] = s.low;
-            self.objects[high] = s.high;
-        }
+        put_row(&mut self.objects, x, s);
         self
     }
 
     fn with_process(mut self, p: u8, s: Members) -> Ledger
         ensures { result ≡ with_process self p s }
     {
-        let low = 2 * (p as usize);
-        let high = low + 1;
-        if p < opens::PROCESSES {
-            self.processes[low] = s.low;
-            self.processes[high] = s.high;
-        }
+        put_row(&mut self.processes, p, s);
         self
     }
 

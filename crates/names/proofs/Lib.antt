@@ -1,2 +1,3 @@
--- The laws that the proofs cite.
-pub mod Tables
+-- What the proofs share.
+mod Tables
+mod Letters

@@ -1,4 +1,3 @@
 -- The words for numbers, and for the conditions that failed.
 pub mod Words
-pub mod Tables
 pub mod Reasons

@@ -1,5 +1,5 @@
 -- The conditions that failed, in words.
-use Rattle.std.specs.Prelude.{ℕ, ◌≡◌, refl, Bool, true, cond, List, [], ◌∷◌, ◌++◌, eqb}
+use Rattle.std.specs.Prelude.{ℕ, ◌≡◌, refl, Bool, true, cond, List, [], ◌++◌, eqb}
 use Rattle.rules.specs.FileFlags.{flag_source}
 use Rattle.rules.specs.Lines.{decimal, decimal_in}
 use Rattle.rules.specs.Text.{ascii}
@@ -8,24 +8,11 @@ use Rattle.state.specs.declared.Facility.{Facility}
 use Rattle.state.specs.State.{objects_in}
 use Rattle.reasons.specs.declared.Failed.{Failed}
 use Rattle.reasons.specs.Reasons.{failed_of}
-use Rattle.names.specs.Words.{flag_word, word_in}
+use Rattle.names.specs.Words.{flag_word}
 
 -- a text where something is so
 unfoldable pub text_if : Bool → List ℕ → List ℕ
 text_if b text = cond b text []
-
--- the texts of the conditions, each in brackets, by their rows in a table
-abbrev pub no_condition : List ℕ
-no_condition = ascii " (no condition)"
-
-abbrev pub reason_words : List (List ℕ)
-reason_words =
-    ascii " (level unset)" ∷ ascii " (automatic off)" ∷ ascii " (label not under the clearance)" ∷ ascii " (label not under the write mark)"
-    ∷ ascii " (label not over the read mark)" ∷ ascii " (current labels differ)" ∷ ascii " (category unset)" ∷ ascii " (category not of the role)"
-    ∷ ascii " (security information, not security officer)" ∷ []
-
-abbrev pub reason_word : ℕ → List ℕ
-reason_word row = word_in no_condition reason_words row
 
 -- MAC's, each in brackets: of the label that was asked for, and of a signal's receiver
 unfoldable pub mac_reasons : Failed → List ℕ

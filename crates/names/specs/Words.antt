@@ -99,17 +99,6 @@ flag_word m =
     (cond (eqb m no_delete) (ascii "no-delete")
     (cond (eqb m search_only) (ascii "search-only") (cond (eqb m add_inherited) (ascii "add-inherited") (ascii "no flag")))))
 
--- the same by the flag's row in a table of the words
-abbrev pub no_flag : List ℕ
-no_flag = ascii "no flag"
-
-abbrev pub flag_words : List (List ℕ)
-flag_words = ascii "read-only" ∷ ascii "no-execute" ∷ ascii "no-delete" ∷ ascii "search-only" ∷ ascii "add-inherited" ∷ []
-
-unfoldable pub flag_row : ℕ → ℕ
-flag_row m =
-    cond (eqb m read_only) 0 (cond (eqb m no_execute) 1 (cond (eqb m no_delete) 2 (cond (eqb m search_only) 3 (cond (eqb m add_inherited) 4 5))))
-
 -- what a number says: 0, the refusals of a call, 1 to 13, and those of a set-up, 14 to 19
 abbrev pub no_number : List ℕ
 no_number = ascii "no number"

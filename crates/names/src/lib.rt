@@ -1,218 +1,191 @@
 // The words for numbers: requests, kinds, answers, flags, refusal numbers, levels, sets of categories, roles, trust, automatic, categories and data
-// types, and for the conditions that failed of a call. Words stand in tables, a row for each, with blanks behind them. What does not fit into the lent
-// buffer is cut off.
+// types, and for the conditions that failed of a call. What does not fit into the lent buffer is cut off.
 #![tactic(auto)]
 
-ghost use Rattle.std.specs.Prelude.{◌+◌, ◌*◌, ◌≤◌, min, [], ◌∷◌, ◌≡◌, length};
-ghost use Rattle.names.specs.Tables.{size_in, word_at};
-ghost use Rattle.names.specs.Reasons.{failed_text, flag_reason, mac_reasons, reason_word, role_reasons, text_if};
-ghost use Rattle.names.specs.Words.{answer_word, automatic_word, category_word, data_type_word, flag_row, flag_word, kind_word, label_word};
-ghost use Rattle.names.specs.Words.{letter_word, letters_of, level_word, number_word, request_word, role_word, set_word, trust_word};
+ghost use Rattle.std.specs.Prelude.{map};
+ghost use Rattle.names.specs.Reasons.{failed_text, flag_reason, mac_reasons, role_reasons, text_if};
+ghost use Rattle.names.specs.Words.{answer_word, automatic_word, category_word, data_type_word, flag_word, kind_word, label_word};
+ghost use Rattle.names.specs.Words.{letters_of, level_word, number_word, request_word, role_word, set_word, trust_word, word_in};
 ghost use Rattle.text.specs.Stored.{Stored};
 
 use labels::Label;
 use reasons::Failed;
 
-// How many bytes of a row are left without the blanks behind them.
-fn size(row: &[u8]) -> usize
-    ensures { result ≡ size_in row.now (length row.now) }
+// The word of a number in a table; `none` is for numbers past the last.
+fn put_word(out: &mut [u8], place: usize, words: &[&str], none: &str, n: u8) -> usize
+    ensures { Stored out.old place (word_in none.now (map (λ w. w.now) words.now) n) out.new result }
 {
-    let mut n = row.len();
-    while 0 < n {
-        if row[n - 1] != b' ' {
-            return n;
-        }
-        n -= 1;
-    }
-    0
+    let word = words.get(n as usize).copied().unwrap_or(none);
+    text::put_text(out, place, word.as_bytes())
 }
 
-// The word of a number in a table of rows of one width; the last row is for numbers past the others.
-fn put_word(out: &mut [u8], place: usize, table: &[u8], width: usize, last: usize, n: u8) -> usize
-    requires { (last * width) + width ≤ length table.now }
-    ensures { Stored out.old place (word_at table.now width (min n last)) out.new result }
+// A text where something is so.
+#[tactic(auto, unfolding(crate::specs::Reasons::text_if))]
+fn put_if(out: &mut [u8], place: usize, test: bool, text: &[u8]) -> usize
+    ensures { Stored out.old place (text_if test text.now) out.new result }
 {
-    let from = labels::least(n as usize, last) * width;
-    let row = &table[from..from + width];
-    let size = size(row);
-    text::put_text(out, place, &row[..size])
+    if test {
+        text::put_text(out, place, text)
+    } else {
+        text::put_nothing(out, place)
+    }
 }
+
+const KINDS: [&str; 4] = ["file", "directory", "channel", "control data"];
 
 // The word for a kind of object.
+#[tactic(auto, unfolding(crate::specs::Words::kind_word))]
 pub fn put_kind(out: &mut [u8], place: usize, kind: u8) -> usize
     ensures { Stored out.old place (kind_word kind) out.new result }
 {
-    let words = b"\
-        file        \
-        directory   \
-        channel     \
-        control data\
-        no kind     ";
-    put_word(out, place, words, 12, 4, kind)
+    put_word(out, place, &KINDS, "no kind", kind)
 }
 
+const ROLES: [&str; 3] = ["general", "security officer", "system administrator"];
+
 // The word for a user's role.
+#[tactic(auto, unfolding(crate::specs::Words::role_word))]
 pub fn put_role(out: &mut [u8], place: usize, role: u8) -> usize
     ensures { Stored out.old place (role_word role) out.new result }
 {
-    let words = b"\
-        general             \
-        security officer    \
-        system administrator\
-        no role             ";
-    put_word(out, place, words, 20, 3, role)
+    put_word(out, place, &ROLES, "no role", role)
 }
 
+const TRUST: [&str; 2] = ["untrusted", "trusted"];
+
 // Whether a user is trusted.
+#[tactic(auto, unfolding(crate::specs::Words::trust_word))]
 pub fn put_trust(out: &mut [u8], place: usize, trusted: u8) -> usize
     ensures { Stored out.old place (trust_word trusted) out.new result }
 {
-    let words = b"\
-        untrusted\
-        trusted  \
-        untrusted";
-    put_word(out, place, words, 9, 2, trusted)
+    put_word(out, place, &TRUST, "untrusted", trusted)
 }
 
+const AUTOMATIC: [&str; 2] = ["not automatic", "automatic"];
+
 // Whether a process is automatic.
+#[tactic(auto, unfolding(crate::specs::Words::automatic_word))]
 pub fn put_automatic(out: &mut [u8], place: usize, automatic: u8) -> usize
     ensures { Stored out.old place (automatic_word automatic) out.new result }
 {
-    let words = b"\
-        not automatic\
-        automatic    \
-        not automatic";
-    put_word(out, place, words, 13, 2, automatic)
+    put_word(out, place, &AUTOMATIC, "not automatic", automatic)
 }
 
+const CATEGORIES: [&str; 3] = ["general", "security", "system"];
+
 // The word for an object's category, which FC looks at.
+#[tactic(auto, unfolding(crate::specs::Words::category_word))]
 pub fn put_category(out: &mut [u8], place: usize, category: u8) -> usize
     ensures { Stored out.old place (category_word category) out.new result }
 {
     if category == labels::UNSET {
         return text::put_text(out, place, b"unset");
     }
-    let words = b"\
-        general    \
-        security   \
-        system     \
-        no category";
-    put_word(out, place, words, 11, 3, category)
+    put_word(out, place, &CATEGORIES, "no category", category)
 }
 
+const DATA_TYPES: [&str; 2] = ["none", "security information"];
+
 // The word for an object's data type.
+#[tactic(auto, unfolding(crate::specs::Words::data_type_word))]
 pub fn put_data_type(out: &mut [u8], place: usize, datatype: u8) -> usize
     ensures { Stored out.old place (data_type_word datatype) out.new result }
 {
-    let words = b"\
-        none                \
-        security information\
-        no data type        ";
-    put_word(out, place, words, 20, 2, datatype)
+    put_word(out, place, &DATA_TYPES, "no data type", datatype)
 }
 
+const ANSWERS: [&str; 4] = ["not cared", "granted", "not granted", "undefined"];
+
 // The word for an answer.
+#[tactic(auto, unfolding(crate::specs::Words::answer_word))]
 pub fn put_answer(out: &mut [u8], place: usize, answer: u8) -> usize
     ensures { Stored out.old place (answer_word answer) out.new result }
 {
-    let words = b"\
-        not cared  \
-        granted    \
-        not granted\
-        undefined  \
-        no answer  ";
-    put_word(out, place, words, 11, 4, answer)
+    put_word(out, place, &ANSWERS, "no answer", answer)
 }
 
+const REQUESTS: [&str; 22] = [
+    "alter",
+    "change-owner",
+    "clone",
+    "close",
+    "create",
+    "delete",
+    "delete-data",
+    "execute",
+    "get-permissions-data",
+    "get-status-data",
+    "modify-access-data",
+    "modify-permissions-data",
+    "read",
+    "read-open",
+    "read&write-open",
+    "search",
+    "send-signal",
+    "set-level",
+    "terminate",
+    "write",
+    "write-open",
+    "login",
+];
+
 // The word for a request.
+#[tactic(auto, unfolding(crate::specs::Words::request_word))]
 pub fn put_request(out: &mut [u8], place: usize, request: u8) -> usize
     ensures { Stored out.old place (request_word request) out.new result }
 {
-    let words = b"\
-        alter                  \
-        change-owner           \
-        clone                  \
-        close                  \
-        create                 \
-        delete                 \
-        delete-data            \
-        execute                \
-        get-permissions-data   \
-        get-status-data        \
-        modify-access-data     \
-        modify-permissions-data\
-        read                   \
-        read-open              \
-        read&write-open        \
-        search                 \
-        send-signal            \
-        set-level              \
-        terminate              \
-        write                  \
-        write-open             \
-        login                  \
-        no request             ";
-    put_word(out, place, words, 23, 22, request)
-}
-
-// The row of a flag, which is a bit, in the table of their words.
-fn flag_row(flag: u8) -> u8
-    ensures { result ≡ flag_row flag }
-{
-    match flag {
-        flags::READ_ONLY => 0,
-        flags::NO_EXECUTE => 1,
-        flags::NO_DELETE => 2,
-        flags::SEARCH_ONLY => 3,
-        flags::ADD_INHERITED => 4,
-        _ => 5,
-    }
+    put_word(out, place, &REQUESTS, "no request", request)
 }
 
 // The word for a flag.
+#[tactic(auto, unfolding(crate::specs::Words::flag_word))]
 pub fn put_flag_word(out: &mut [u8], place: usize, flag: u8) -> usize
     ensures { Stored out.old place (flag_word flag) out.new result }
 {
-    let words = b"\
-        read-only    \
-        no-execute   \
-        no-delete    \
-        search-only  \
-        add-inherited\
-        no flag      ";
-    put_word(out, place, words, 13, 5, flag_row(flag))
+    let word = match flag {
+        flags::READ_ONLY => "read-only",
+        flags::NO_EXECUTE => "no-execute",
+        flags::NO_DELETE => "no-delete",
+        flags::SEARCH_ONLY => "search-only",
+        flags::ADD_INHERITED => "add-inherited",
+        _ => "no flag",
+    };
+    text::put_text(out, place, word.as_bytes())
 }
 
+const NUMBERS: [&str; 20] = [
+    "accepted",
+    "no such request",
+    "no such process number",
+    "process does not run",
+    "process number is not free",
+    "no such user",
+    "object is not live",
+    "object's kind lacks the request",
+    "no such kind",
+    "object is not open in that mode",
+    "128 objects are entered",
+    "no such level",
+    "not granted",
+    "undefined",
+    "length is not allowed",
+    "kind does not fit the place",
+    "too many users or objects",
+    "a byte is not allowed",
+    "buffer is too short",
+    "parent is no earlier directory",
+];
+
 // What a number says.
+#[tactic(auto, unfolding(crate::specs::Words::number_word))]
 pub fn put_number(out: &mut [u8], place: usize, number: u8) -> usize
     ensures { Stored out.old place (number_word number) out.new result }
 {
-    let words = b"\
-        accepted                       \
-        no such request                \
-        no such process number         \
-        process does not run           \
-        process number is not free     \
-        no such user                   \
-        object is not live             \
-        object's kind lacks the request\
-        no such kind                   \
-        object is not open in that mode\
-        128 objects are entered        \
-        no such level                  \
-        not granted                    \
-        undefined                      \
-        length is not allowed          \
-        kind does not fit the place    \
-        too many users or objects      \
-        a byte is not allowed          \
-        buffer is too short            \
-        parent is no earlier directory \
-        no number                      ";
-    put_word(out, place, words, 31, 20, number)
+    put_word(out, place, &NUMBERS, "no number", number)
 }
 
 // An object's level, or that it is unset.
+#[tactic(auto, unfolding(crate::specs::Words::level_word))]
 pub fn put_level(out: &mut [u8], place: usize, level: u8) -> usize
     ensures { Stored out.old place (level_word level) out.new result }
 {
@@ -222,28 +195,15 @@ pub fn put_level(out: &mut [u8], place: usize, level: u8) -> usize
     text::put_small(out, place, level)
 }
 
-// A category's letter, where the category is in the set.
-fn put_letter(out: &mut [u8], place: usize, category: u8, letter: u8, s: u8) -> usize
-    ensures { Stored out.old place (letter_word category (letter ∷ []) s) out.new result }
-{
-    if flags::has(category, s) {
-        return text::put_text(out, place, &[letter]);
-    }
-    labels::least(place, out.len())
-}
-
 // The letters of a set of categories.
 fn put_letters(out: &mut [u8], place: usize, s: u8) -> usize
     ensures { Stored out.old place (letters_of s) out.new result }
 {
-    let mut p = put_letter(out, place, 1, b'a', s);
-    p = put_letter(out, p, 2, b'b', s);
-    p = put_letter(out, p, 4, b'c', s);
-    p = put_letter(out, p, 8, b'd', s);
-    p = put_letter(out, p, 16, b'e', s);
-    p = put_letter(out, p, 32, b'f', s);
-    p = put_letter(out, p, 64, b'g', s);
-    put_letter(out, p, 128, b'h', s)
+    let mut p = text::put_nothing(out, place);
+    for k in 0..8 {
+        p = put_if(out, p, flags::has(1 << k, s), &[b'a' + k]);
+    }
+    p
 }
 
 // The same with a blank before them, or that all are in it.
@@ -251,7 +211,7 @@ pub fn put_set(out: &mut [u8], place: usize, s: u8) -> usize
     ensures { Stored out.old place (set_word s) out.new result }
 {
     if s == 0 {
-        return labels::least(place, out.len());
+        return text::put_nothing(out, place);
     }
     if s == labels::ALL_CATEGORIES {
         return text::put_text(out, place, b" all");
@@ -268,65 +228,30 @@ pub fn put_label(out: &mut [u8], place: usize, l: Label) -> usize
     put_set(out, p, l.set)
 }
 
-// The rows of the conditions in the table of their texts.
-const LEVEL_UNSET: u8 = 0;
-
-const AUTOMATIC_OFF: u8 = 1;
-
-const NOT_UNDER_CLEARANCE: u8 = 2;
-
-const NOT_UNDER_WRITE_MARK: u8 = 3;
-
-const NOT_OVER_READ_MARK: u8 = 4;
-
-const LABELS_DIFFER: u8 = 5;
-
-const CATEGORY_UNSET: u8 = 6;
-
-const CATEGORY_NOT_OF_ROLE: u8 = 7;
-
-const NOT_SECURITY_OFFICER: u8 = 8;
-
-// The text of a condition, where it failed.
-fn put_reason(out: &mut [u8], place: usize, failed: bool, row: u8) -> usize
-    ensures { Stored out.old place (text_if failed (reason_word row)) out.new result }
-{
-    let words = b"\
-        \x20(level unset)                                \
-        \x20(automatic off)                              \
-        \x20(label not under the clearance)              \
-        \x20(label not under the write mark)             \
-        \x20(label not over the read mark)               \
-        \x20(current labels differ)                      \
-        \x20(category unset)                             \
-        \x20(category not of the role)                   \
-        \x20(security information, not security officer) \
-        \x20(no condition)                               ";
-    if failed {
-        return put_word(out, place, words, 46, 9, row);
-    }
-    labels::least(place, out.len())
-}
-
 // The conditions of MAC that failed.
 fn put_mac_reasons(out: &mut [u8], place: usize, w: Failed) -> usize
     ensures { Stored out.old place (mac_reasons w) out.new result }
 {
-    let mut p = put_reason(out, place, w.unset, LEVEL_UNSET);
-    p = put_reason(out, p, w.fixed, AUTOMATIC_OFF);
-    p = put_reason(out, p, w.clearance, NOT_UNDER_CLEARANCE);
-    p = put_reason(out, p, w.writemark, NOT_UNDER_WRITE_MARK);
-    p = put_reason(out, p, w.readmark, NOT_OVER_READ_MARK);
-    put_reason(out, p, w.receiver, LABELS_DIFFER)
+    let mut p = put_if(out, place, w.unset, b" (level unset)");
+    p = put_if(out, p, w.fixed, b" (automatic off)");
+    p = put_if(out, p, w.clearance, b" (label not under the clearance)");
+    p = put_if(out, p, w.writemark, b" (label not under the write mark)");
+    p = put_if(out, p, w.readmark, b" (label not over the read mark)");
+    put_if(out, p, w.receiver, b" (current labels differ)")
 }
 
 // Those of FC and SIM.
 fn put_role_reasons(out: &mut [u8], place: usize, w: Failed) -> usize
     ensures { Stored out.old place (role_reasons w) out.new result }
 {
-    let mut p = put_reason(out, place, w.nocategory, CATEGORY_UNSET);
-    p = put_reason(out, p, w.category, CATEGORY_NOT_OF_ROLE);
-    put_reason(out, p, w.datatype, NOT_SECURITY_OFFICER)
+    let mut p = put_if(out, place, w.nocategory, b" (category unset)");
+    p = put_if(out, p, w.category, b" (category not of the role)");
+    put_if(
+        out,
+        p,
+        w.datatype,
+        b" (security information, not security officer)",
+    )
 }
 
 // The flag by which FF does not grant, and the object whose own flag it is.
@@ -334,7 +259,7 @@ fn put_flag_reason(out: &mut [u8], place: usize, flag: u8, source: u8) -> usize
     ensures { Stored out.old place (flag_reason flag source) out.new result }
 {
     if flag == 0 {
-        return labels::least(place, out.len());
+        return text::put_nothing(out, place);
     }
     let mut p = text::put_text(out, place, b" (");
     p = put_flag_word(out, p, flag);

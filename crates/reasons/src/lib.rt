@@ -2,16 +2,17 @@
 #![tactic(auto)]
 
 ghost use Rattle.std.specs.Prelude.{◌≡◌};
-ghost use Rattle.reasons.specs.Reasons.{alone_failed, class_failed, failed_by, failed_in, failed_of, flag_failed, mac_failed, nothing_failed, object_failed};
-ghost use Rattle.reasons.specs.Reasons.{read_failed, set_failed, signal_failed, unless, write_failed, nothing_of_mac};
+ghost use Rattle.reasons.specs.Reasons.{alone_failed, class_failed, failed_by, failed_in, failed_of, flag_failed, mac_failed, object_failed};
+ghost use Rattle.reasons.specs.Reasons.{read_failed, set_failed, signal_failed, unless, write_failed};
 
+use in_place::FacilityStore;
 use labels::Label;
 use rules::{Action, Class, View};
-use state::{Call, Facility, Object, Process, User};
+use state::{Call, Object, Process, User};
 
 // The conditions of MAC that failed. Of an object: its level is unset. Of the label that is asked for, where it is not the current one: automatic is off;
 // it is not under the clearance, not under the write mark, not over the read mark. Of a signal: the receiver's current label is another.
-#[derive(Clone, Copy)]
+#[derive(Clone, Copy, Default)]
 struct MacFailed {
     unset: bool,
     fixed: bool,
@@ -24,7 +25,7 @@ struct MacFailed {
 // All conditions that failed: those of MAC; of FC, the category is unset, or is not of the role; of SIM, the object is security information, and the
 // role is not security officer; of FF the first flag that forbids the request, 0 where none does.
 #[repr(C)]
-#[derive(Clone, Copy)]
+#[derive(Clone, Copy, Default)]
 pub struct Failed {
     pub unset: bool,
     pub fixed: bool,
@@ -36,36 +37,6 @@ pub struct Failed {
     pub category: bool,
     pub datatype: bool,
     pub flag: u8,
-}
-
-fn nothing_of_mac() -> MacFailed
-    ensures { result ≡ nothing_of_mac }
-{
-    MacFailed {
-        unset: false,
-        fixed: false,
-        clearance: false,
-        writemark: false,
-        readmark: false,
-        receiver: false,
-    }
-}
-
-pub fn nothing_failed() -> Failed
-    ensures { result ≡ nothing_failed }
-{
-    Failed {
-        unset: false,
-        fixed: false,
-        clearance: false,
-        writemark: false,
-        readmark: false,
-        receiver: false,
-        nocategory: false,
-        category: false,
-        datatype: false,
-        flag: 0,
-    }
 }
 
 // What failed where the label is not held already: automatic, that it is over the read mark, under the write mark, under the clearance.
@@ -121,11 +92,9 @@ fn class_failed(k: Class, l: Label, r: Process, clr: Label) -> MacFailed
     ensures { result ≡ class_failed k l r clr }
 {
     match k {
-        Class::Absent => nothing_of_mac(),
         Class::Reads => read_failed(l, r, clr),
-        Class::Writes => write_failed(l, r, clr),
-        Class::Both => write_failed(l, r, clr),
-        Class::NoCondition => nothing_of_mac(),
+        Class::Writes | Class::Both => write_failed(l, r, clr),
+        Class::Absent | Class::NoCondition => MacFailed::default(),
     }
 }
 
@@ -135,12 +104,13 @@ fn object_failed(k: Class, o: Object, r: Process, u: User) -> MacFailed
 {
     let l = o.label;
     if !l.is_given() {
-        let mut m = nothing_of_mac();
-        m.unset = true;
-        return m;
+        return MacFailed {
+            unset: true,
+            ..MacFailed::default()
+        };
     }
     if u.trusted == 1 {
-        return nothing_of_mac();
+        return MacFailed::default();
     }
     class_failed(k, l, r, u.clearance)
 }
@@ -151,9 +121,10 @@ fn signal_failed(r: Process, u: User, receiver: Process) -> MacFailed
 {
     let here = r.current;
     let equal = here.same(receiver.current);
-    let mut m = nothing_of_mac();
-    m.receiver = !((u.trusted == 1) | equal);
-    m
+    MacFailed {
+        receiver: !((u.trusted == 1) | equal),
+        ..MacFailed::default()
+    }
 }
 
 // Of a request that needs no object.
@@ -161,14 +132,9 @@ fn alone_failed(k: Action, v: View, c: Call) -> MacFailed
     ensures { result ≡ alone_failed k v c }
 {
     match k {
-        Action::Login => nothing_of_mac(),
-        Action::Clone => nothing_of_mac(),
         Action::SendSignal => signal_failed(v.caller, v.owner, v.target.receiver),
         Action::SetLevel => set_failed(Label::of(c.extra, c.target), v.caller, v.owner.clearance),
-        Action::Terminate => nothing_of_mac(),
-        Action::Create => nothing_of_mac(),
-        Action::OnObject => nothing_of_mac(),
-        Action::Unknown => nothing_of_mac(),
+        _ => MacFailed::default(),
     }
 }
 
@@ -177,7 +143,7 @@ fn mac_failed(k: Action, v: View, c: Call) -> MacFailed
     ensures { result ≡ mac_failed k v c }
 {
     if v.switches.mac != 1 {
-        return nothing_of_mac();
+        return MacFailed::default();
     }
     if requests::needs_object(k, c.extra) {
         return object_failed(modules::class_in(v, c), v.target.object, v.caller, v.owner);
@@ -235,14 +201,14 @@ pub fn failed_by(n: u8, v: View, c: Call) -> Failed
     if answers::is_denial(n) {
         return failed_in(requests::action_of(c.request), v, c);
     }
-    nothing_failed()
+    Failed::default()
 }
 
 // The conditions that failed of a call on a facility.
-pub fn failed_of(f: Facility, c: Call) -> Failed
-    ensures { result ≡ failed_of f c }
+pub fn failed_of<S: FacilityStore>(s: &S, c: Call) -> Failed
+    ensures { result ≡ failed_of (S.facility s.now) c }
 {
-    let v = calls::view_of(f, c);
+    let v = calls::view_of(s, c);
     let o = questions::outcome_in(v, c);
     failed_by(o.number(), v, c)
 }

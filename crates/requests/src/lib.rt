@@ -6,7 +6,7 @@ ghost use Rattle.requests.specs.ClassCodes.{class_named, word_right};
 ghost use Rattle.requests.specs.Request.{request_of};
 ghost use Rattle.rules.specs.Requests.{class_code, is_on_object, alters, class_of, in_directory, is_absent};
 ghost use Rattle.rules.specs.Requests.{is_create, is_no_condition, needs_object, open_change};
-ghost use Rattle.rules.specs.Requests.{action_of, is_clone, action_code, is_login, is_send_signal, is_set_level, last_kind, last_request};
+ghost use Rattle.rules.specs.Requests.{action_of, is_clone, is_login, is_send_signal, is_set_level, last_kind, last_request};
 
 use opens::OpenChange;
 use rules::{Action, Class};
@@ -140,56 +140,30 @@ pub fn class_of(request: u8, kind: u8) -> Class
     class_named(code_at(request, kind))
 }
 
-// The codes by which classes and what requests act on are told apart; these two are of many requests and of none.
-const ON_OBJECT_CODE: u8 = 254;
-
-const UNKNOWN_CODE: u8 = 255;
-
 // The number of a class, by which C is told it.
 pub fn class_code(k: Class) -> u64
     ensures { result ≡ class_code k }
 {
-    match k {
-        Class::Absent => NONE,
-        Class::Reads => R,
-        Class::Writes => W,
-        Class::Both => B,
-        Class::NoCondition => N,
-    }
-}
-
-fn action_code(k: Action) -> u8
-    ensures { result ≡ action_code k }
-{
-    match k {
-        Action::Clone => rules::CLONE_REQUEST,
-        Action::Create => rules::CREATE_REQUEST,
-        Action::SendSignal => rules::SEND_SIGNAL_REQUEST,
-        Action::SetLevel => rules::SET_LEVEL_REQUEST,
-        Action::Terminate => rules::TERMINATE_REQUEST,
-        Action::Login => rules::LOGIN_REQUEST,
-        Action::OnObject => ON_OBJECT_CODE,
-        Action::Unknown => UNKNOWN_CODE,
-    }
+    k as u64
 }
 
 pub fn is_absent(k: Class) -> bool
     ensures { result ≡ is_absent k }
 {
-    class_code(k) == NONE
+    k == Class::Absent
 }
 
 pub fn is_no_condition(k: Class) -> bool
     ensures { result ≡ is_no_condition k }
 {
-    class_code(k) == N
+    k == Class::NoCondition
 }
 
 // Class W or B.
 pub fn alters(k: Class) -> bool
     ensures { result ≡ alters k }
 {
-    class_code(k) / 2 == 1
+    matches!(k, Class::Writes | Class::Both)
 }
 
 // What a request acts on.
@@ -213,13 +187,13 @@ pub fn action_of(request: u8) -> Action
 pub fn is_create(k: Action) -> bool
     ensures { result ≡ is_create k }
 {
-    action_code(k) == rules::CREATE_REQUEST
+    k == Action::Create
 }
 
 fn is_on_object(k: Action) -> bool
     ensures { result ≡ is_on_object k }
 {
-    action_code(k) == ON_OBJECT_CODE
+    k == Action::OnObject
 }
 
 // Whether an object of this kind is created in a directory.
@@ -289,5 +263,5 @@ pub fn is_send_signal(request: u8) -> bool
 pub fn is_set_level(k: Action) -> bool
     ensures { result ≡ is_set_level k }
 {
-    action_code(k) == rules::SET_LEVEL_REQUEST
+    k == Action::SetLevel
 }

@@ -1,5 +1,5 @@
 -- Lists of records that are accepted one after the other, and what sections in the order of the table have of it: without any facility's fields.
-use Rattle.answers.specs.declared.SetupOutcome.TheVariants.{Accepted}
+use Rattle.answers.specs.Outcomes.{setup_accepted}
 use Rattle.std.specs.Prelude.{ℕ, suc, ◌+◌, ◌≤◌, ◌<◌, ◌≡◌, refl, ◌≢◌, true, List, [], ◌∷◌, ◌++◌, eqb, length}
 use Rattle.std.proofs.Common.{sym, ◌∙◌, ap, length-append, arith, eqb-true, le-leb, lt-ltb, eq-eqb, ne_eqb}
 use Rattle.labels.proofs.Laws.Decisions.{and_i, clash, by_test}
@@ -29,7 +29,7 @@ enter_each f [] = f
 enter_each f (r ∷ rs) = enter_each (enter_record f r) rs
 
 pub accepted_read : (past rs : List SetupRecord) (f : Facility) → AllAccepted past rs
-    → enter_all past f rs ≡ record { outcome = Accepted; facility = enter_each f rs }
+    → enter_all past f rs ≡ record { outcome = setup_accepted; facility = enter_each f rs }
 unfolding enter_all enter_each
 accepted_read past [] f h = refl
 accepted_read past (r ∷ rs) f h = rw (eq-eqb _ 0 (accepted_number past r h.0)) (accepted_read (r ∷ past) rs (enter_record f r) h.1)

@@ -1,5 +1,5 @@
 -- Set-ups read and written out, and written out and read back: proved.
-use Rattle.answers.specs.declared.SetupOutcome.TheVariants.{Accepted}
+use Rattle.answers.specs.Outcomes.{setup_accepted}
 use Rattle.std.specs.Prelude.{ℕ, zero, suc, ◌*◌, ◌/◌, ◌%◌, ◌≤◌, ◌<◌, ◌≡◌, refl, ◌≢◌, true, List, [], ◌∷◌, map, length, take, drop}
 use Rattle.std.proofs.Common.{sym, ◌∙◌, ap, subst, drop_at, arith, ltb-true, eqb-true, lt-ltb, le-leb, eq-eqb}
 use Rattle.std.proofs.Math.Path.{subst⁻¹}
@@ -72,7 +72,7 @@ records_back f =
     let e : length (bytes_of_all (setup_records f)) / 8 ≡ length (setup_records f) = omega arith in
     ap (λ (n : ℕ). records_of n (bytes_of_all (setup_records f))) e ∙ records_of_bytes (setup_records f)
 
-read_back : (f : Facility) → Regular f → read_setup (setup_bytes f) ≡ record { outcome = Accepted; facility = enter_each (blank all_off) (setup_records f) }
+read_back : (f : Facility) → Regular f → read_setup (setup_bytes f) ≡ record { outcome = setup_accepted; facility = enter_each (blank all_off) (setup_records f) }
 unfolding read_setup
 read_back f R = rw (bytes_sized f R, records_back f) (accepted_read [] (setup_records f) (blank all_off) (all_accepted f R))
 

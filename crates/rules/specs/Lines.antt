@@ -1,5 +1,5 @@
 -- "The run program": what it prints, as bytes.
-use Rattle.answers.specs.declared.SetupOutcome.TheVariants.{Accepted, Refused}
+use Rattle.std.specs.Prelude.{Err, Ok}
 use Rattle.std.specs.Prelude.{ℕ, zero, suc, ◌+◌, ◌/◌, ◌%◌, true, false, cond, List, [], ◌∷◌, ◌++◌, ltb, eqb, length}
 use Rattle.rules.specs.Types.{SetupOutcome, Call, Facility}
 use Rattle.answers.specs.Outcomes.{number_of, answers_of}
@@ -64,8 +64,8 @@ unfoldable pub short_line : List ℕ → List ℕ
 short_line s = cond (eqb (length s % 4) 0) [] (ascii "short\n")
 
 unfoldable pub printed : SetupOutcome → Facility → List ℕ → List ℕ
-printed Accepted f calls = call_lines 1 f (calls_of calls) ++ short_line calls
-printed (Refused n i) f calls = setup_line n i
+printed (Ok u) f calls = call_lines 1 f (calls_of calls) ++ short_line calls
+printed (Err r) f calls = setup_line r.number r.index
 
 -- what is printed for the bytes of `setup.bin` and of standard input
 abbrev pub output : List ℕ → List ℕ → List ℕ

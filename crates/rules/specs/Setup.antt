@@ -2,8 +2,8 @@
 pub use Rattle.rules.specs.Kinds.{SetupRecord, record_number}
 use Rattle.rules.specs.Kinds.{switches_record_kind, user_record_kind, object_record_kind}
 pub use Rattle.rules.specs.declared.Reading.{Reading}
-use Rattle.answers.specs.declared.SetupOutcome.TheVariants.{Accepted, Refused}
-use Rattle.answers.specs.declared.WriteOutcome.TheVariants.{Written, NoRoom}
+use Rattle.answers.specs.Outcomes.{no_room, setup_accepted, setup_refused, written}
+use Rattle.std.specs.Prelude.{Err, Ok}
 use Rattle.std.specs.Prelude.{ℕ, zero, suc, ◌+◌, ◌-◌, ◌/◌, ◌%◌, Bool, true, false, cond, List, [], ◌∷◌, ◌++◌, map, leb, ltb, eqb, length, drop}
 use Rattle.rules.specs.Types.{SetupOutcome, WriteOutcome, Switches, User, Object, Facility}
 use Rattle.labels.specs.Decisions.{◌and◌, at, on}
@@ -88,11 +88,11 @@ enter_record f r = enter_among enter_rows f r
 
 -- a refused set-up gives the fresh facility of one switches record with all off
 abbrev pub refused_setup : ℕ → ℕ → Reading
-refused_setup n i = record { outcome = Refused n i; facility = blank all_off }
+refused_setup n i = record { outcome = setup_refused n i; facility = blank all_off }
 
 -- the records after those that are past, each asked in turn; the index of a record is how many are past
 unfoldable pub enter_all : List SetupRecord → Facility → List SetupRecord → Reading
-enter_all past f [] = record { outcome = Accepted; facility = f }
+enter_all past f [] = record { outcome = setup_accepted; facility = f }
 enter_all past f (r ∷ rs) =
     cond (eqb (record_number past r) 0)
     (enter_all (r ∷ past) (enter_record f r) rs)
@@ -111,8 +111,8 @@ abbrev pub fresh : List ℕ → Facility
 fresh s = (read_setup s).facility
 
 abbrev pub is_accepted : SetupOutcome → Bool
-is_accepted Accepted = true
-is_accepted (Refused n i) = false
+is_accepted (Ok u) = true
+is_accepted (Err r) = false
 
 abbrev pub accepted_setup : List ℕ → Bool
 accepted_setup s = is_accepted (read_setup s).outcome
@@ -221,5 +221,5 @@ pub record Writing : Type 0 where
 unfoldable pub write_setup : Facility → List ℕ → Writing
 write_setup f lent =
     cond (leb (length (setup_bytes f)) (length lent))
-    (record { outcome = Written (length (setup_bytes f)); buffer = setup_bytes f ++ drop (length (setup_bytes f)) lent })
-    (record { outcome = NoRoom; buffer = lent })
+    (record { outcome = written (length (setup_bytes f)); buffer = setup_bytes f ++ drop (length (setup_bytes f)) lent })
+    (record { outcome = no_room; buffer = lent })

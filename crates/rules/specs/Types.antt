@@ -3,8 +3,7 @@ pub use Rattle.answers.specs.declared.Answer.{Answer}
 pub use Rattle.answers.specs.declared.Answer.TheVariants.{NotCared, Granted, NotGranted, Undefined}
 pub use Rattle.answers.specs.declared.Answers.{Answers}
 pub use Rattle.answers.specs.declared.Outcome.{Outcome}
-pub use Rattle.answers.specs.declared.SetupOutcome.{SetupOutcome}
-pub use Rattle.answers.specs.declared.WriteOutcome.{WriteOutcome}
+pub use Rattle.answers.specs.Outcomes.{SetupOutcome, WriteOutcome}
 pub use Rattle.state.specs.declared.Call.{Call}
 pub use Rattle.state.specs.declared.Switches.{Switches}
 pub use Rattle.state.specs.declared.Process.{Process}

@@ -78,7 +78,7 @@ pub const SECURITY_OFFICER: u8 = 1;
 pub const SECURITY_INFORMATION: u8 = 1;
 
 // What a request acts on. All requests that are not named here act on an object; a number above the last is no request.
-#[derive(Clone, Copy)]
+#[derive(Clone, Copy, PartialEq, Eq)]
 pub enum Action {
     Login,
     Clone,
@@ -91,7 +91,7 @@ pub enum Action {
 }
 
 // The class of a request by the kind of its object: R, W, B, N, or that the kind does not have the request.
-#[derive(Clone, Copy)]
+#[derive(Clone, Copy, PartialEq, Eq)]
 pub enum Class {
     Absent,
     Reads,

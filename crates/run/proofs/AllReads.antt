@@ -1,6 +1,6 @@
 -- No byte is lost between reads, and the texts of the blocks, one after the other, are the output of document 01.
-use Rattle.answers.specs.declared.SetupOutcome.TheVariants.{Accepted}
-use Rattle.answers.specs.declared.SetupOutcome.{SetupOutcome}
+use Rattle.answers.specs.Outcomes.{setup_accepted}
+use Rattle.answers.specs.Outcomes.{SetupOutcome}
 use Prim.Native.Nat.{ℕ, zero, suc, ◌+◌, ◌-◌, ◌/◌, ◌%◌, ◌≤◌, ◌<◌}
 use mathlib.Core.Bool.{Bool, true, false, cond}
 use mathlib.Core.Path.{◌≡◌, refl, ap, sym, ◌∙◌}
@@ -217,7 +217,7 @@ all_texts f rs i s m h =
     let b = ltb-true (length (all_brought nothing_kept rs) / 4 + 1) 9223372036854775808 h in
     texts_are 0 f s m (omega arith) ∙ ap (λ (x : List ℕ). call_lines 1 f (calls_of x) ++ cond i.failed [] (short_line x)) e
 
-accepted : (o : SetupOutcome) (f : Facility) (calls : List ℕ) → o ≡ Accepted → call_lines 1 f (calls_of calls) ++ short_line calls ≡ printed o f calls
+accepted : (o : SetupOutcome) (f : Facility) (calls : List ℕ) → o ≡ setup_accepted → call_lines 1 f (calls_of calls) ++ short_line calls ≡ printed o f calls
 unfolding printed
 accepted o f calls e = ap (λ (x : SetupOutcome). printed x f calls) (sym e)
 

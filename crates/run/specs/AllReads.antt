@@ -1,5 +1,5 @@
 -- All that a run reads, read after read, and what it writes: no byte is lost, and the texts together are the output of document 01.
-use Rattle.answers.specs.declared.SetupOutcome.TheVariants.{Accepted}
+use Rattle.answers.specs.Outcomes.{setup_accepted}
 use Rattle.std.specs.Prelude.{ℕ, ◌+◌, ◌*◌, ◌/◌, ◌≤◌, true, false, cond, ◌≡◌, List, [], ◌∷◌, ◌++◌, eqb, length, take, drop}
 use Rattle.labels.specs.Decisions.{◌and◌}
 use Rattle.state.specs.declared.Facility.{Facility}
@@ -73,7 +73,7 @@ few_calls calls = indexed (length calls / 4 + 1) ≡ true
 
 pub record WholeOutput : Type 0 where
   pub ended : (setup : List ℕ) (rs : List Read) (i : Input) → Reads nothing_kept rs i → i.more ≡ false → i.failed ≡ false
-      → (read_setup setup).outcome ≡ Accepted → few_calls (all_brought nothing_kept rs)
+      → (read_setup setup).outcome ≡ setup_accepted → few_calls (all_brought nothing_kept rs)
       → texts 0 (read_setup setup).facility rs ≡ output setup (all_brought nothing_kept rs)
   pub failed : (f : Facility) (rs : List Read) (i : Input) → Reads nothing_kept rs i → i.failed ≡ true → few_calls (all_brought nothing_kept rs)
       → texts 0 f rs ≡ call_lines 1 f (calls_of (all_brought nothing_kept rs))

@@ -8,7 +8,7 @@ ghost use Rattle.in_place.specs.Stores.{Becomes};
 ghost use Rattle.rules.specs.Setup.{read_setup};
 ghost use Rattle.run.specs.AllReads.{Turn};
 
-use answers::SetupOutcome;
+use answers::{SetupOutcome, SetupRefusal};
 use console::{Input, Kept};
 use std::io::{Eprint, Print};
 use std::rt::Files;
@@ -39,7 +39,7 @@ fn read_setup<R: Files + Eprint>(
     let got = console::read_setup_bytes(rt, bytes);
     let count = got.total;
     SetupRead {
-        outcome: setup_in_place::read_in(&bytes[..count], f),
+        outcome: setup::read_in(f, &bytes[..count]),
         count,
         said: got.said,
     }
@@ -79,7 +79,7 @@ fn turn<R: std::io::Input + Print + Eprint>(
             more: false,
         };
     }
-    let length = lines::put_block_in(f, done + 1, &bytes[..lined], out);
+    let length = lines::put_block(f, done + 1, &bytes[..lined], out);
     let written = console::write_lines(rt, &out[..length]);
     After {
         done: next,
@@ -96,8 +96,7 @@ fn run<R: std::io::Input + Print + Eprint>(rt: &R, f: &mut [u8; in_place::SIZE])
     let mut out = io::large_buffer();
     let mut done: u64 = 0;
     let mut kept = console::nothing_kept();
-    let mut k: u64 = 0;
-    while k < READS {
+    for _ in 0..READS {
         if done >= CALLS {
             return;
         }
@@ -105,10 +104,8 @@ fn run<R: std::io::Input + Print + Eprint>(rt: &R, f: &mut [u8; in_place::SIZE])
         if !t.more {
             return;
         }
-        let input = t.input;
         done = t.done;
-        kept = input.kept;
-        k += 1;
+        kept = t.input.kept;
     }
 }
 
@@ -121,10 +118,8 @@ fn refuse<R: Print + Eprint>(rt: &R, number: u8, index: u16) {
 fn main(rt: HostRuntime) {
     let mut bytes = io::large_buffer();
     let mut f = [0u8; in_place::SIZE];
-    let read = read_setup(&rt, &mut bytes, &mut f);
-    let outcome = read.outcome;
-    match outcome {
-        SetupOutcome::Accepted => run(&rt, &mut f),
-        SetupOutcome::Refused { number, index } => refuse(&rt, number, index),
+    match read_setup(&rt, &mut bytes, &mut f).outcome {
+        Ok(()) => run(&rt, &mut f),
+        Err(SetupRefusal { number, index }) => refuse(&rt, number, index),
     }
 }

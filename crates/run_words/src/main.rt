@@ -2,12 +2,12 @@
 // case is the story of docs/LEVELS.md.
 #![tactic(auto)]
 
-ghost use Rattle.std.specs.Prelude.{◌≤◌, ◌<◌, ◌^◌, true, ◌≡◌, length};
+ghost use Rattle.std.specs.Prelude.{◌≤◌, ◌<◌, ◌^◌, ◌≡◌, IfSome, length};
 ghost use Rattle.rules.specs.Histories.{run as Histories·run};
 ghost use Rattle.rules.specs.Lines.{calls_of};
 ghost use Rattle.run_words.specs.Turns.{Turn};
 
-use answers::SetupOutcome;
+use answers::SetupRefusal;
 use console::{Input, Kept};
 use state::Facility;
 use std::io::{Eprint, Print};
@@ -20,20 +20,6 @@ const CALLS: u64 = 1 << 62;
 // Room for one more line, and more than that.
 const LINE: usize = 4096;
 
-// How many bytes of lines stay, and whether those that do not could be written.
-#[derive(Clone, Copy)]
-struct Stored {
-    place: usize,
-    written: bool,
-}
-
-// After calls: the facility, and whether their lines could be written.
-#[derive(Clone, Copy)]
-struct Told {
-    facility: Facility,
-    written: bool,
-}
-
 // After a read: the facility, how many calls are done, what was read, and whether more is to be read.
 #[derive(Clone, Copy)]
 struct After {
@@ -43,67 +29,40 @@ struct After {
     more: bool,
 }
 
-// Writes the lines that are stored where there is no room for one more.
-fn write_full<R: Print + Eprint>(rt: &R, lines: &[u8]) -> Stored
-    ensures { result.place ≤ length lines.now }
+// Writes the lines that are stored where there is no room for one more; how many bytes of them stay, and `None` where they cannot be written.
+fn write_full<R: Print + Eprint>(rt: &R, lines: &[u8]) -> Option<usize>
+    ensures { IfSome result (λ n. n ≤ length lines.now) }
 {
-    let n = lines.len();
-    if n < words::BUFFER - LINE {
-        return Stored {
-            place: n,
-            written: true,
-        };
+    if lines.len() < words::BUFFER - LINE {
+        return Some(lines.len());
     }
-    let written = console::write_lines(rt, lines);
-    Stored {
-        place: 0,
-        written: written.all,
-    }
+    console::write_lines(rt, lines).all.then_some(0)
 }
 
-// Prints the calls of a block, the first of which has this index, and stops where a line cannot be written.
-fn tell_block<R: Print + Eprint>(rt: &R, start: Facility, first: u64, calls: &[u8]) -> Told
+// Prints the calls of a block, the first of which has this index; the facility after them, and `None` where a line cannot be written.
+fn tell_block<R: Print + Eprint>(
+    rt: &R,
+    start: Facility,
+    first: u64,
+    calls: &[u8],
+) -> Option<Facility>
     requires { first < 2 ^ 63 }
-    ensures { result.written ≡ true → result.facility ≡ Histories·run start (calls_of calls.now) }
+    ensures { IfSome result (λ f. f ≡ Histories·run start (calls_of calls.now)) }
 {
-    let n = calls.len();
     let mut out = io::large_buffer();
     let mut f = start;
     let mut place: usize = 0;
-    let mut i: usize = 0;
-    while 4 <= n - i {
-        let c = history::call_at(calls, i);
-        let index = first + (i as u64) / 4;
-        i += 4;
-        f = words::tell(f, index, c, &mut out, &mut place);
-        let stored = write_full(rt, &out[..place]);
-        if !stored.written {
-            return Told {
-                facility: f,
-                written: false,
-            };
-        }
-        place = stored.place;
+    for (i, bytes) in calls.chunks_exact(4).enumerate() {
+        let c = history::call_at(bytes, 0);
+        place = words::tell(&mut f, first + i as u64, c, &mut out, place);
+        place = write_full(rt, &out[..place])?;
     }
-    let written = console::write_lines(rt, &out[..place]);
-    Told {
-        facility: f,
-        written: written.all,
-    }
+    console::write_lines(rt, &out[..place]).all.then_some(f)
 }
 
-// Prints `short` where bytes are left over of so many, and all before it was written; whether all was.
-fn tell_short<R: Print + Eprint>(rt: &R, lined: usize, written: bool) -> bool
-    ensures { result ≡ true → written ≡ true }
-{
-    if !written {
-        return false;
-    }
-    if lined % 4 == 0 {
-        return true;
-    }
-    let short = console::write_lines(rt, b"short\n");
-    short.all
+// Prints `short` where bytes are left over of so many; whether what there was to print was written.
+fn tell_short<R: Print + Eprint>(rt: &R, lined: usize) -> bool {
+    lined % 4 == 0 || console::write_lines(rt, b"short\n").all
 }
 
 // Reads calls, and prints those that are whole; at the end of the input `short`, where bytes are left over.
@@ -120,13 +79,12 @@ fn turn<R: std::io::Input + Print + Eprint>(
     let input = console::read_calls(rt, bytes, kept);
     let lined = input.lined;
     let told = tell_block(rt, f, done + 1, &bytes[..lined]);
-    let facility = told.facility;
-    let written = tell_short(rt, lined, told.written & !input.failed);
+    let written = told.is_some() && !input.failed && tell_short(rt, lined);
     After {
-        facility,
+        facility: told.unwrap_or(f),
         done: done + (lined as u64) / 4,
         input,
-        more: written & input.more,
+        more: written && input.more,
     }
 }
 
@@ -135,8 +93,7 @@ fn run<R: std::io::Input + Print + Eprint>(rt: &R, start: Facility) {
     let mut f = start;
     let mut done: u64 = 0;
     let mut kept = console::nothing_kept();
-    let mut k: u64 = 0;
-    while k < READS {
+    for _ in 0..READS {
         if done >= CALLS {
             return;
         }
@@ -144,11 +101,9 @@ fn run<R: std::io::Input + Print + Eprint>(rt: &R, start: Facility) {
         if !t.more {
             return;
         }
-        let input = t.input;
         f = t.facility;
         done = t.done;
-        kept = input.kept;
-        k += 1;
+        kept = t.input.kept;
     }
 }
 
@@ -160,12 +115,9 @@ fn refuse<R: Print + Eprint>(rt: &R, number: u8, index: u16) {
 
 fn main(rt: HostRuntime) {
     let mut bytes = io::large_buffer();
-    let read = console::read_setup(&rt, &mut bytes);
-    let reading = read.reading;
-    let f = reading.facility;
-    let outcome = reading.outcome;
-    match outcome {
-        SetupOutcome::Accepted => run(&rt, f),
-        SetupOutcome::Refused { number, index } => refuse(&rt, number, index),
+    let reading = console::read_setup(&rt, &mut bytes).reading;
+    match reading.outcome {
+        Ok(()) => run(&rt, reading.facility),
+        Err(SetupRefusal { number, index }) => refuse(&rt, number, index),
     }
 }

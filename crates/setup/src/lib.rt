@@ -1,4 +1,4 @@
-// Set-ups: reading one from bytes.
+// Set-ups: reading one from bytes, into a facility wherever it is.
 #![tactic(auto)]
 
 ghost use Rattle.std.specs.Prelude.{◌*◌, ◌≤◌, [], ◌≡◌, length};
@@ -8,7 +8,8 @@ ghost use Rattle.rules.specs.Setup.{records_of, refused_setup, switches_entered,
 ghost use Rattle.setup.specs.Progress.{count_after, fits_after, none_before, number_after, parent_fits_in, progress_after};
 ghost use Rattle.state.specs.State.{all_off, blank};
 
-use answers::SetupOutcome;
+use answers::{SetupOutcome, SetupRefusal};
+use in_place::FacilityStore;
 use labels::Label;
 use rules::{Also, Byte, Kind, Reading, SetupRecord};
 use state::{Facility, Object, Process, Switches, User};
@@ -201,16 +202,16 @@ fn allowed_by(d: Kind, r: SetupRecord) -> bool
                             & (byte_allowed(seven, r.seven) & also_allowed(also, r)))))))
 }
 
-// 19: is the parent of an object none, or the number plus 1 of one of the `entered` objects that is a directory?
-pub fn parent_fits(kinds: &[u8], entered: u8, r: SetupRecord) -> bool
-    ensures { result ≡ parent_fits_in kinds.now entered r }
+// 19: is the parent of an object none, or the number plus 1 of one of the objects entered that is a directory?
+pub fn parent_fits<S: FacilityStore>(s: &S, r: SetupRecord) -> bool
+    ensures { result ≡ parent_fits_in (S.facility s.now).kinds (S.facility s.now).entered r }
 {
     if r.six == 0 {
         return true;
     }
     let t = r.six - 1;
-    let directory = labels::at(kinds, t as usize) == rules::DIRECTORY_KIND;
-    (r.kind != 2) | ((t < entered) & directory)
+    let directory = s.object(t).kind == rules::DIRECTORY_KIND;
+    (r.kind != 2) | ((t < s.entered()) & directory)
 }
 
 // The questions 15 to 17 and 19 of one record, where `fit` answers 19.
@@ -286,65 +287,63 @@ pub fn object_entered(r: SetupRecord) -> Object
 }
 
 // The facility with one record more.
-fn enter_record(f: Facility, r: SetupRecord) -> Facility
-    ensures { result ≡ enter_record f r }
+fn enter_record<S: FacilityStore>(s: &mut S, r: SetupRecord)
+    ensures { S.becomes s.old s.new (enter_record (S.facility s.old) r) }
 {
-    if r.kind == rules::SWITCHES_RECORD {
-        return Facility::blank(switches_entered(r));
-    }
-    if r.kind == rules::USER_RECORD {
-        return f.with_user(user_entered(r));
-    }
-    if r.kind == rules::OBJECT_RECORD {
-        return f.with_object(object_entered(r));
-    }
-    f
-}
-
-fn refused(number: u8, index: u16) -> Reading
-    ensures { result ≡ refused_setup number index }
-{
-    let facility = Facility::blank(Switches::off());
-    Reading {
-        outcome: SetupOutcome::Refused { number, index },
-        facility,
+    match r.kind {
+        rules::SWITCHES_RECORD => s.blank(switches_entered(r)),
+        rules::USER_RECORD => s.add_user(user_entered(r)),
+        rules::OBJECT_RECORD => s.add_object(object_entered(r)),
+        _ => {}
     }
 }
 
-// The first records of a set-up, each asked in turn.
-fn read_records(s: &[u8], count: u16) -> Reading
-    requires { count * 8 ≤ length s.now }
-    ensures { result ≡ enter_all [] (blank all_off) (records_of count s.now) }
+// Of a refused set-up nothing stays.
+fn refuse<S: FacilityStore>(s: &mut S, number: u8, index: u16) -> SetupOutcome
+    ensures value { result ≡ (refused_setup number index).outcome }
+    ensures becomes { S.becomes s.old s.new (refused_setup number index).facility }
 {
-    let mut f = Facility::blank(Switches::off());
+    s.blank(Switches::off());
+    Err(SetupRefusal { number, index })
+}
+
+// The first records of a set-up, each asked in turn. The facility is not blanked before: the first record does it.
+fn read_records<S: FacilityStore>(s: &mut S, bytes: &[u8], count: u16) -> SetupOutcome
+    requires { (1 ≤ count) × (count * 8 ≤ length bytes.now) }
+    ensures value { result ≡ (enter_all [] (blank all_off) (records_of count bytes.now)).outcome }
+    ensures becomes { S.becomes s.old s.new (enter_all [] (blank all_off) (records_of count bytes.now)).facility }
+{
     let mut before = none_before();
-    let mut k: u16 = 0;
-    while k < count {
+    for k in 0..count {
         let from = (k as usize) * RECORD;
-        let to = from + RECORD;
-        let r = record_of(&s[from..to]);
-        let fit = parent_fits(&f.kinds, f.entered, r);
-        let number = record_number(before, fit, r);
+        let r = record_of(&bytes[from..from + RECORD]);
+        let number = record_number(before, parent_fits(s, r), r);
         if number != 0 {
-            return refused(number, k);
+            return refuse(s, number, k);
         }
-        f = enter_record(f, r);
+        enter_record(s, r);
         before = progress_after(before, r.kind);
-        k += 1;
     }
-    Reading {
-        outcome: SetupOutcome::Accepted,
-        facility: f,
+    Ok(())
+}
+
+// What a set-up's bytes, of any length, come to; the facility becomes the one that they give.
+pub fn read_in<S: FacilityStore>(s: &mut S, bytes: &[u8]) -> SetupOutcome
+    ensures value { result ≡ (read_setup bytes.now).outcome }
+    ensures becomes { S.becomes s.old s.new (read_setup bytes.now).facility }
+{
+    let n = bytes.len();
+    if !allowed_length(n) {
+        return refuse(s, 14, 0);
     }
+    read_records(s, bytes, ((n / RECORD) % 65536) as u16)
 }
 
 // The facility and the outcome of a set-up's bytes, of any length.
-pub fn read_setup(s: &[u8]) -> Reading
-    ensures { result ≡ read_setup s.now }
+pub fn read_setup(bytes: &[u8]) -> Reading
+    ensures { result ≡ read_setup bytes.now }
 {
-    let n = s.len();
-    if !allowed_length(n) {
-        return refused(14, 0);
-    }
-    read_records(s, ((n / RECORD) % 65536) as u16)
+    let mut facility = Facility::blank(Switches::off());
+    let outcome = read_in(&mut facility, bytes);
+    Reading { outcome, facility }
 }

@@ -13,12 +13,8 @@ pub fn put_text(out: &mut [u8], place: usize, text: &[u8]) -> usize
     if size <= place {
         return size;
     }
-    let n = labels::least(size - place, text.len());
-    let mut j: usize = 0;
-    while j < n {
-        out[place + j] = text[j];
-        j += 1;
-    }
+    let n = text.len().min(size - place);
+    out[place..place + n].copy_from_slice(&text[..n]);
     place + n
 }
 
@@ -26,7 +22,7 @@ pub fn put_text(out: &mut [u8], place: usize, text: &[u8]) -> usize
 pub fn put_nothing(out: &[u8], place: usize) -> usize
     ensures { Stored out.now place [] out.now result }
 {
-    labels::least(place, out.len())
+    place.min(out.len())
 }
 
 // A number in decimal.

@@ -1,7 +1,7 @@
 // Unfinished opens: four bytes for each process, one behind the other in one array, which the state by value and the bytes in place lend.
 #![tactic(auto)]
 
-ghost use Rattle.std.specs.Prelude.{◌≡◌, set};
+ghost use Rattle.std.specs.Prelude.{◌≡◌};
 ghost use Rattle.labels.specs.Decisions.{at};
 ghost use Rattle.unfinished.specs.Unfinished.{no_unfinished, unfinished_in, with_unfinished};
 
@@ -44,23 +44,13 @@ pub fn unfinished_at(s: &[u8], p: u8) -> Unfinished
     }
 }
 
-// Element i becomes v, where there is one.
-fn put(s: &mut [u8], i: usize, v: u8)
-    ensures { s.new ≡ set s.old i v }
-{
-    if s.len() <= i {
-        return;
-    }
-    s[i] = v;
-}
-
 // What process p has begun becomes u; past the end nothing changes.
 pub fn put_unfinished(s: &mut [u8], p: u8, u: Unfinished)
     ensures { s.new ≡ with_unfinished s.old p u }
 {
     let i = 4 * (p as usize);
-    put(s, i, u.request);
-    put(s, i + 1, u.target);
-    put(s, i + 2, u.extra);
-    put(s, i + 3, u.first);
+    labels::put(s, i, u.request);
+    labels::put(s, i + 1, u.target);
+    labels::put(s, i + 2, u.extra);
+    labels::put(s, i + 3, u.first);
 }

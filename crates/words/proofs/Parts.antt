@@ -14,7 +14,7 @@ use Rattle.rules.proofs.Refusals.{query_number}
 use Rattle.reasons.specs.declared.Failed.{Failed}
 use Rattle.reasons.specs.Reasons.{failed_by}
 use Rattle.names.specs.Reasons.{source_of}
-use Rattle.words.specs.Sentences.{Reason, Told, reason_in, told, told_of}
+use Rattle.words.specs.Sentences.{Reason, Told, reason_in, told}
 
 abbrev reason : Failed → ℕ → Reason
 reason w s = record { failed = w; source = s }
@@ -41,31 +41,3 @@ told_found i f g c v q n r o w k hv hq hn hr ho hg hw hk =
     let ek =
     hk ∙ ap (λ (x : Facility). refusals_of x v.caller.owner) hg ∙ ap (λ (x : View). refusals_of (after f c) x.caller.owner) hv in
     λ j. record { index = i; call = c; before = hv j; reason = er j; outcome = ho j; later = ew j; count = ek j }
-
--- the same of a call on f that comes to o and leaves g
-pub parts_found : (i : ℕ) (f g : Facility) (c : Call) (v : View) (n : ℕ) (r : Reason) (o : Outcome) (w : View) (k : ℕ) → v ≡ view_of f c → n ≡ number_of o
-    → r ≡ reason_in f n v c → w ≡ view_of g c → k ≡ refusals_of g v.caller.owner → record_of i c v r o w k ≡ told_of i f g o c
-unfolding told_of
-parts_found i f g c v n r o w k hv hn hr hw hk =
-    let er = hr ∙ ap (λ (x : ℕ). reason_in f x v c) hn ∙ ap (λ (x : View). reason_in f (number_of o) x c) hv in
-    let ek = hk ∙ ap (λ (x : View). refusals_of g x.caller.owner) hv in
-    λ j. record { index = i; call = c; before = hv j; reason = er j; outcome = o; later = hw j; count = ek j }
-
-enforced : (i : ℕ) (f : Facility) (c : Call) → told_of i f (after f c) (query f c) c ≡ told i f c
-unfolding told told_of
-enforced i f c =
-    let e = ap (λ (x : ℕ). reason_in f x (view_of f c) c) (query_number f c) in
-    λ j. record {
-      index = i;
-      call = c;
-      before = view_of f c;
-      reason = e j;
-      outcome = query f c;
-      later = view_of (after f c) c;
-      count = refusals_of (after f c) (view_of f c).caller.owner;
-    }
-
--- where g is the facility after the call and o what a query gives, that is what is told of the call
-pub told_enforced : (i : ℕ) (f g : Facility) (o : Outcome) (c : Call) (t : Told) → t ≡ told_of i f g o c → g ≡ after f c → o ≡ query f c → t ≡ told i f c
-told_enforced i f g o c t ht hg ho =
-    ht ∙ ap (λ (x : Facility). told_of i f x o c) hg ∙ ap (λ (x : Outcome). told_of i f (after f c) x c) ho ∙ enforced i f c

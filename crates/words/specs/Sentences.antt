@@ -138,19 +138,6 @@ told i f c =
       count = refusals_of (after f c) (owner_in f c);
     }
 
--- what is told of call c, the i-th, on f, that comes to o and leaves g
-unfoldable pub told_of : ℕ → Facility → Facility → Outcome → Call → Told
-told_of i f g o c =
-    record {
-      index = i;
-      call = c;
-      before = view_of f c;
-      reason = reason_in f (number_of o) (view_of f c) c;
-      outcome = o;
-      later = view_of g c;
-      count = refusals_of g (owner_in f c);
-    }
-
 -- the line of call c, the i-th, enforced on f
 abbrev pub sentence : ℕ → Facility → Call → List ℕ
 sentence i f c = sentence_text (told i f c)

@@ -3,25 +3,23 @@
 #![tactic(auto)]
 
 ghost use Rattle.std.specs.Prelude.{[], ◌∷◌, ◌≡◌};
-ghost use Rattle.in_place.specs.Layout.{facility_at};
-ghost use Rattle.in_place.specs.Stores.{Becomes};
 ghost use Rattle.io.specs.Counts.{IsPrefixLen};
 ghost use Rattle.rules.specs.Calls.{after};
 ghost use Rattle.rules.specs.Requests.{action_of};
-ghost use Rattle.state.specs.State.{refusals_of};
 ghost use Rattle.text.specs.Stored.{Stored};
 ghost use Rattle.words.specs.Patterns.{filled, said, signs};
 ghost use Rattle.words.specs.Sentences.{answers_text, before_text, count_text, create_text, flag_text, flags_text, later_text, made_text, object_text};
 ghost use Rattle.words.specs.Sentences.{outcome_text, process_text, reason_in, receiver_text, sentence, sentence_text, setup_sentence, target_text};
-ghost use Rattle.words.specs.Sentences.{told, told_of};
+ghost use Rattle.words.specs.Sentences.{told};
 ghost use Rattle.words.specs.Short.{short_sentence};
 
 mod short;
 
-use answers::Outcome;
+use answers::{Answers, Outcome};
+use in_place::FacilityStore;
 use reasons::Failed;
 use rules::{Action, View};
-use state::{Call, Facility, Object, Process, User};
+use state::{Call, Object, Process, User};
 
 // How many bytes a buffer for lines has. An array and not a slice: a function that hands it on is then checked in two thirds of the time.
 pub const BUFFER: usize = 65536;
@@ -91,13 +89,9 @@ fn put_filled(out: &mut [u8; BUFFER], place: usize, pattern: &[u8], numbers: &[u
 {
     let mut p = text::put_text(out, place, b"");
     let mut i: usize = 0;
-    let mut j: usize = 0;
-    while j < pattern.len() {
-        let x = pattern[j];
-        let n = labels::at(numbers, i);
-        p = put_said(out, p, x, n);
-        i += signs(x);
-        j += 1;
+    for x in pattern {
+        p = put_said(out, p, *x, labels::at(numbers, i));
+        i += signs(*x);
     }
     p
 }
@@ -260,12 +254,13 @@ fn put_answers(out: &mut [u8; BUFFER], place: usize, o: Outcome) -> usize
     ensures { Stored out.old place (answers_text o) out.new result }
 {
     let n = o.number();
-    let a = o.answers();
-    let mac = a.mac;
-    let fc = a.fc;
-    let sim = a.sim;
-    let ff = a.ff;
-    let combined = a.combined;
+    let Answers {
+        mac,
+        fc,
+        sim,
+        ff,
+        combined,
+    } = o.answers();
     let all = [
         mac.code(),
         fc.code(),
@@ -336,129 +331,63 @@ fn put_sentence(out: &mut [u8; BUFFER], place: usize, t: Told) -> usize
 }
 
 // What failed of a call with number n, which looks at v, and the object that the flag comes from.
-fn reason_in(f: Facility, n: u8, v: View, c: Call) -> Reason
-    ensures { result ≡ reason_in f n v c }
+fn reason_of<S: FacilityStore>(s: &S, n: u8, v: View, c: Call) -> Reason
+    ensures { result ≡ reason_in (S.facility s.now) n v c }
 {
     let failed = reasons::failed_by(n, v, c);
-    let source = flags::source_at(&f.lives, &f.flags, &f.parents, c.target, failed.flag);
-    Reason { failed, source }
-}
-
-// The same of a facility where it is.
-fn reason_at(s: &[u8; in_place::SIZE], n: u8, v: View, c: Call) -> Reason
-    ensures { result ≡ reason_in (facility_at s.now) n v c }
-{
-    let failed = reasons::failed_by(n, v, c);
-    let source = in_place::source_of(s, c.target, failed.flag);
-    Reason { failed, source }
-}
-
-// The counter of a user.
-fn count_of(f: Facility, u: u8) -> u32
-    ensures { result ≡ refusals_of f u }
-{
-    labels::word_at(&f.refusals, u as usize)
-}
-
-// What is told of a call on the facility f that comes to o and leaves the facility g.
-fn told_of(f: Facility, g: Facility, o: Outcome, index: u64, c: Call) -> Told
-    ensures { result ≡ told_of index f g o c }
-{
-    let before = calls::view_of(f, c);
-    let reason = reason_in(f, o.number(), before, c);
-    let later = calls::view_of(g, c);
-    let count = count_of(g, before.caller.owner);
-    Told {
-        index,
-        call: c,
-        before,
-        reason,
-        outcome: o,
-        later,
-        count,
+    Reason {
+        failed,
+        source: flags::source(s, c.target, failed.flag),
     }
 }
 
-// Enforces a call on a facility where it is: what is told of it. The flag's object is looked for before the call, which may delete it.
-fn told_in(s: &mut [u8; in_place::SIZE], index: u64, c: Call) -> Told
-    ensures value { result ≡ told index (facility_at s.old) c }
-    ensures becomes { Becomes s.old s.new (after (facility_at s.old) c) }
+// Enforces a call: what is told of it. The flag's object is looked for before the call, which may delete it.
+fn told_of<S: FacilityStore>(s: &mut S, index: u64, c: Call) -> Told
+    ensures value { result ≡ told index (S.facility s.old) c }
+    ensures becomes { S.becomes s.old s.new (after (S.facility s.old) c) }
 {
-    let before = in_place::view_of(s, c);
-    let foretold = in_place::query_in(s, c);
-    let reason = reason_at(s, foretold.number(), before, c);
-    let outcome = in_place::enforce_in(s, c);
-    let later = in_place::view_of(s, c);
-    let count = in_place::counter_of(s, before.caller.owner);
+    let before = calls::view_of(s, c);
+    let foretold = calls::query(s, c);
+    let reason = reason_of(s, foretold.number(), before, c);
+    let outcome = calls::enforce(s, c);
     Told {
         index,
         call: c,
         before,
         reason,
         outcome,
-        later,
-        count,
+        later: calls::view_of(s, c),
+        count: s.refusals(before.caller.owner),
     }
 }
 
-// Enforces a call, stores its line, and answers the facility after it. The place is moved behind the line.
-pub fn tell(f: Facility, index: u64, c: Call, out: &mut [u8; BUFFER], place: &mut usize) -> Facility
-    ensures value { result ≡ after f c }
-    ensures stored { Stored out.old place.old (sentence index f c) out.new place.new }
-    ensures prefix_len { IsPrefixLen place.new out.new }
+// Enforces a call and stores its line. Answers where the line ends.
+pub fn tell<S: FacilityStore>(
+    s: &mut S,
+    index: u64,
+    c: Call,
+    out: &mut [u8; BUFFER],
+    place: usize,
+) -> usize
+    ensures stored { Stored out.old place (sentence index (S.facility s.old) c) out.new result }
+    ensures becomes { S.becomes s.old s.new (after (S.facility s.old) c) }
+    ensures prefix_len { IsPrefixLen result out.new }
 {
-    let e = calls::enforce(f, c);
-    let facility = e.facility;
-    let outcome = e.outcome;
-    let t = told_of(f, facility, outcome, index, c);
-    *place = put_sentence(out, *place, t);
-    facility
+    put_sentence(out, place, told_of(s, index, c))
 }
 
 // The same with the short line.
-pub fn tell_short(
-    f: Facility,
-    index: u64,
-    c: Call,
-    out: &mut [u8; BUFFER],
-    place: &mut usize,
-) -> Facility
-    ensures value { result ≡ after f c }
-    ensures stored { Stored out.old place.old (short_sentence index f c) out.new place.new }
-{
-    let e = calls::enforce(f, c);
-    let facility = e.facility;
-    let outcome = e.outcome;
-    let t = told_of(f, facility, outcome, index, c);
-    *place = short::put_short(out, *place, t);
-    facility
-}
-
-// Both lines of a call on a facility where it is: its bytes become those of the facility after it. Answers where the line ends.
-pub fn tell_in(
-    s: &mut [u8; in_place::SIZE],
+pub fn tell_short<S: FacilityStore>(
+    s: &mut S,
     index: u64,
     c: Call,
     out: &mut [u8; BUFFER],
     place: usize,
 ) -> usize
-    ensures stored { Stored out.old place (sentence index (facility_at s.old) c) out.new result }
-    ensures becomes { Becomes s.old s.new (after (facility_at s.old) c) }
+    ensures stored { Stored out.old place (short_sentence index (S.facility s.old) c) out.new result }
+    ensures becomes { S.becomes s.old s.new (after (S.facility s.old) c) }
 {
-    put_sentence(out, place, told_in(s, index, c))
-}
-
-pub fn tell_short_in(
-    s: &mut [u8; in_place::SIZE],
-    index: u64,
-    c: Call,
-    out: &mut [u8; BUFFER],
-    place: usize,
-) -> usize
-    ensures stored { Stored out.old place (short_sentence index (facility_at s.old) c) out.new result }
-    ensures becomes { Becomes s.old s.new (after (facility_at s.old) c) }
-{
-    short::put_short(out, place, told_in(s, index, c))
+    short::put_short(out, place, told_of(s, index, c))
 }
 
 // A refused set-up.

@@ -10,7 +10,7 @@ use native.Mathlib.Omega.{arith}
 use native.Mathlib.Numerals.{add-one}
 use borrow.Author.Tests.{le-leb, lt-leb, eq-eqb, ne_eqb}
 use Rattle.rules.specs.declared.SetupRecord.{SetupRecord}
-use Rattle.writer.specs.Writing.{section_of, put_one, put_all, Stored, live_record, lives_only}
+use Rattle.writer.specs.Writing.{section_of, put_one, put_all, Stored, live_record}
 use Rattle.labels.specs.Decisions.{on}
 use Rattle.labels.proofs.Laws.Decisions.{by_test}
 use Rattle.rules.specs.Setup.{bytes_of, listed, object_record, with_parent, renumbered, bytes_of_all, write_setup, setup_records, setup_bytes}
@@ -20,9 +20,8 @@ use Rattle.rules.proofs.Listed.{listed_length}
 use Rattle.state.specs.declared.Object.{Object}
 use Rattle.state.specs.State.{Objects}
 use Rattle.opens.specs.Laws.Loops.{sets_append}
-use Rattle.answers.specs.declared.WriteOutcome.{WriteOutcome}
+use Rattle.answers.specs.Outcomes.{WriteOutcome, no_room as no_room_outcome, written}
 use Rattle.state.specs.declared.Facility.{Facility}
-use Rattle.answers.specs.declared.WriteOutcome.TheVariants.{NoRoom, Written}
 
 put_append : (o : List ℕ) (p : ℕ) (xs ys : List SetupRecord) → put_all (put_all o p xs) (p + length xs * 8) ys ≡ put_all o p (xs ++ ys)
 unfolding put_all
@@ -118,12 +117,6 @@ live_stored o p y x m q h s = rw (eq-eqb _ 1 h) s
 pub dead_stored : (o : List ℕ) (p : ℕ) (y : Objects) (x : Object) → (x.live ≡ 1 → ⊥) → Stored o p (live_record y x) o p
 dead_stored o p y x h = rw (ne_eqb _ 1 h) (nothing o p)
 
--- parents' new numbers look only at which objects live
-pub record_told : (x : Objects) (o : Object) → live_record (lives_only x.lives) o ≡ live_record x o
-record_told x o =
-    ap (λ (n : ℕ). map object_record (cond (on o.live) (with_parent o n ∷ []) []))
-    (parent_same x (lives_only x.lives) o.parent o.parent (λ z. omega arith) (λ t b. refl))
-
 -- In a buffer without bytes nothing is stored; where there is room, all bytes are.
 pub put_none : (p : ℕ) (rs : List SetupRecord) → put_all [] p rs ≡ []
 unfolding put_all
@@ -147,7 +140,7 @@ whole_length : (f : Facility) (o m : List ℕ) (q : ℕ) → Stored o 0 (setup_r
 unfolding setup_bytes
 whole_length f o m q s = let b = bytes_length (setup_records f) in omega (arith, s.place)
 
-pub no_room : (f : Facility) (o l m : List ℕ) (q : ℕ) → Stored l 0 (setup_records f) m q → length o < q → Answered f o NoRoom o
+pub no_room : (f : Facility) (o l m : List ℕ) (q : ℕ) → Stored l 0 (setup_records f) m q → length o < q → Answered f o no_room_outcome o
 unfolding write_setup
 no_room f o l m q s h =
     let e = whole_length f l m q s in
@@ -155,14 +148,14 @@ no_room f o l m q s h =
     let c = lt-leb (length (setup_bytes f)) (length o) (omega arith) in
     record { told = rw c; left = rw c }
 
-pub all_room : (f : Facility) (o m : List ℕ) (q : ℕ) → q ≤ length o → Stored o 0 (setup_records f) m q → Answered f o (Written q) m
+pub all_room : (f : Facility) (o m : List ℕ) (q : ℕ) → q ≤ length o → Stored o 0 (setup_records f) m q → Answered f o (written q) m
 unfolding write_setup setup_bytes
 all_room f o m q h s =
     let e = whole_length f o m q s in
     let c = le-leb (length (bytes_of_all (setup_records f))) (length o) (omega arith) in
     let z : 0 + length (bytes_of_all (setup_records f)) ≡ length (bytes_of_all (setup_records f)) = omega arith in
     record {
-      told = rw c (ap (λ (n : ℕ). Written n) e);
+      told = rw c (ap (λ (n : ℕ). written n) e);
       left = rw c (s.buffer ∙ put_room o 0 (setup_records f) (omega (arith, s.place)) ∙ sets-eq (bytes_of_all (setup_records f)) o 0 (omega arith)
           ∙ ap (λ (n : ℕ). bytes_of_all (setup_records f) ++ drop n o) z);
     }

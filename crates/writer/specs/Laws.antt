@@ -1,7 +1,7 @@
 -- Laws that other crates cite.
 use Rattle.std.specs.Prelude.{ℕ, List, ◌≡◌, refl}
 use Rattle.std.proofs.Common.{◌∙◌, ap}
-use Rattle.answers.specs.declared.WriteOutcome.{WriteOutcome}
+use Rattle.answers.specs.Outcomes.{WriteOutcome}
 use Rattle.rules.specs.Setup.{Writing, setup_records, setup_bytes, write_setup}
 use Rattle.writer.specs.Writing.{facility_with}
 use Rattle.state.specs.State.{blank, objects_in, switches_of, users_in}

@@ -1,15 +1,16 @@
 // Set-ups: writing one out into a lent buffer.
 #![tactic(auto)]
 
-ghost use Rattle.std.specs.Prelude.{◌≤◌, [], ◌∷◌, ◌≡◌};
+ghost use Rattle.std.specs.Prelude.{◌*◌, ◌+◌, ◌≤◌, [], ◌∷◌, ◌≡◌};
 ghost use Rattle.rules.specs.Setup.{new_number, new_parent, object_record};
 ghost use Rattle.rules.specs.Setup.{renumbered, setup_records, switches_record, user_record, write_setup};
-ghost use Rattle.writer.specs.Writing.{facility_with, live_record, lives_only, object_records, Stored, user_records};
-ghost use Rattle.state.specs.State.{objects_from, users_from};
+ghost use Rattle.writer.specs.Writing.{live_record, object_records, Stored, user_records};
+ghost use Rattle.state.specs.State.{objects_in, users_in};
 
-use answers::WriteOutcome;
+use answers::{NoRoom, WriteOutcome};
+use in_place::FacilityStore;
 use rules::SetupRecord;
-use state::{Facility, Object, Switches, User};
+use state::{Object, Switches, User};
 
 // The records that are written out for the switches, a user and an object.
 fn switches_record(s: Switches) -> SetupRecord
@@ -77,247 +78,95 @@ fn put_record(out: &mut [u8], place: usize, r: SetupRecord) -> usize
     next
 }
 
-// The section of users: the first n.
-fn put_users<'a>(
-    out: &mut [u8],
-    start: usize,
-    clearances: &'a [u8],
-    roles: &'a [u8],
-    trusts: &'a [u8],
-    clearancesets: &'a [u8],
-    n: u8,
-) -> usize
+// The section of users.
+fn put_users<S: FacilityStore>(out: &mut [u8], start: usize, s: &S) -> usize
     requires { start ≤ 65536 }
-    ensures { Stored out.old start
-        (user_records n (users_from clearances.now roles.now trusts.now clearancesets.now)) out.new result }
+    ensures stored { Stored out.old start (user_records (S.facility s.now).users (users_in (S.facility s.now))) out.new result }
+    ensures within { result ≤ start + 8 * 255 }
 {
     let mut place = start;
-    let mut k: u8 = 0;
-    while k < n {
-        let u = state::user_at(clearances, roles, trusts, clearancesets, k as usize);
-        let r = user_record(u);
-        place = put_record(out, place, r);
-        k += 1;
+    for u in 0..s.users() {
+        place = put_record(out, place, user_record(s.user(u)));
     }
     place
 }
 
 // The new number of object t: how many live ones are before it. It is counted anew for each parent: there are few objects.
-fn new_number(lives: &[u8], t: u8) -> u8
-    ensures { result ≡ new_number (lives_only lives.now) t }
+fn new_number<S: FacilityStore>(s: &S, t: u8) -> u8
+    ensures { result ≡ new_number (objects_in (S.facility s.now)) t }
 {
     let mut n: u8 = 0;
-    let mut k: u8 = 0;
-    while k < t {
-        if labels::at(lives, k as usize) == 1 {
+    for k in 0..t {
+        if s.object(k).live == 1 {
             n += 1;
         }
-        k += 1;
     }
     n
 }
 
 // A parent, as its number plus 1, by its new number; none for a deleted one.
-fn new_parent(lives: &[u8], parent: u8) -> u8
-    ensures { result ≡ new_parent (lives_only lives.now) parent }
+fn new_parent<S: FacilityStore>(s: &S, parent: u8) -> u8
+    ensures { result ≡ new_parent (objects_in (S.facility s.now)) parent }
 {
     if parent == 0 {
         return 0;
     }
     let t = parent - 1;
-    if labels::at(lives, t as usize) != 1 {
+    if s.object(t).live != 1 {
         return 0;
     }
-    new_number(lives, t) + 1
+    new_number(s, t) + 1
 }
 
 // The object with its parent by its new number.
-fn renumbered(lives: &[u8], o: Object) -> Object
-    ensures { result ≡ renumbered (lives_only lives.now) o }
+fn renumbered<S: FacilityStore>(s: &S, o: Object) -> Object
+    ensures { result ≡ renumbered (objects_in (S.facility s.now)) o }
 {
-    let parent = new_parent(lives, o.parent);
-    let mut written = o;
-    written.parent = parent;
-    written
+    let parent = new_parent(s, o.parent);
+    Object { parent, ..o }
 }
 
 // A live object's record, with its parent's new number; none of one that is not live.
-fn put_live(out: &mut [u8], place: usize, lives: &[u8], o: Object) -> usize
+fn put_live<S: FacilityStore>(out: &mut [u8], place: usize, s: &S, o: Object) -> usize
     requires { place ≤ 131072 }
-    ensures { Stored out.old place (live_record (lives_only lives.now) o) out.new result }
+    ensures { Stored out.old place (live_record (objects_in (S.facility s.now)) o) out.new result }
 {
     if o.live == 1 {
-        let r = object_record(renumbered(lives, o));
+        let r = object_record(renumbered(s, o));
         return put_record(out, place, r);
     }
     place
 }
 
-// The section of objects: the live ones of the first n.
-fn put_objects<'a>(
-    out: &mut [u8],
-    start: usize,
-    lives: &'a [u8],
-    kinds: &'a [u8],
-    levels: &'a [u8],
-    categories: &'a [u8],
-    datatypes: &'a [u8],
-    flags: &'a [u8],
-    parents: &'a [u8],
-    sets: &'a [u8],
-    n: u8,
-) -> usize
+// The section of objects: the live ones of those that were entered.
+fn put_objects<S: FacilityStore>(out: &mut [u8], start: usize, s: &S) -> usize
     requires { start ≤ 65536 }
-    ensures { Stored out.old start
-        (object_records n (objects_from lives.now kinds.now levels.now categories.now datatypes.now
-        flags.now parents.now sets.now)) out.new result }
+    ensures { Stored out.old start (object_records (S.facility s.now).entered (objects_in (S.facility s.now))) out.new result }
 {
     let mut place = start;
-    let mut k: u8 = 0;
-    while k < n {
-        let o = state::object_at(
-            lives, kinds, levels, categories, datatypes, flags, parents, sets, k as usize,
-        );
-        place = put_live(out, place, lives, o);
-        k += 1;
+    for t in 0..s.entered() {
+        place = put_live(out, place, s, s.object(t));
     }
     place
 }
 
 // All sections, one after the other, as far as they fit. Answers the length of the whole.
-fn put_sections<'a>(
-    out: &mut [u8],
-    switches: Switches,
-    users: u8,
-    clearances: &'a [u8],
-    roles: &'a [u8],
-    trusts: &'a [u8],
-    clearancesets: &'a [u8],
-    entered: u8,
-    lives: &'a [u8],
-    kinds: &'a [u8],
-    levels: &'a [u8],
-    categories: &'a [u8],
-    datatypes: &'a [u8],
-    flags: &'a [u8],
-    parents: &'a [u8],
-    sets: &'a [u8],
-) -> usize
-    ensures { Stored out.old 0
-        (setup_records (facility_with switches users
-        (users_from clearances.now roles.now trusts.now clearancesets.now) entered
-        (objects_from lives.now kinds.now levels.now categories.now datatypes.now
-        flags.now parents.now sets.now)))
-        out.new result }
+fn put_sections<S: FacilityStore>(out: &mut [u8], s: &S) -> usize
+    ensures { Stored out.old 0 (setup_records (S.facility s.now)) out.new result }
 {
-    let first = switches_record(switches);
-    let second = put_record(out, 0, first);
-    let objects = put_users(out, second, clearances, roles, trusts, clearancesets, users);
-    put_objects(
-        out, objects, lives, kinds, levels, categories, datatypes, flags, parents, sets, entered,
-    )
+    let users = put_record(out, 0, switches_record(s.switches()));
+    let objects = put_users(out, users, s);
+    put_objects(out, objects, s)
 }
 
-// Writes the set-up of lent switches, users and objects into a lent buffer that holds it all; else the buffer stays as it is. A first pass over
-// none of the buffer tells the length.
-pub fn write_parts<'a>(
-    out: &mut [u8],
-    switches: Switches,
-    users: u8,
-    clearances: &'a [u8],
-    roles: &'a [u8],
-    trusts: &'a [u8],
-    clearancesets: &'a [u8],
-    entered: u8,
-    lives: &'a [u8],
-    kinds: &'a [u8],
-    levels: &'a [u8],
-    categories: &'a [u8],
-    datatypes: &'a [u8],
-    flags: &'a [u8],
-    parents: &'a [u8],
-    sets: &'a [u8],
-) -> WriteOutcome
-    ensures value { result ≡ (write_setup
-        (facility_with switches users (users_from clearances.now roles.now trusts.now clearancesets.now) entered
-        (objects_from lives.now kinds.now levels.now categories.now datatypes.now
-        flags.now parents.now sets.now))
-        out.old).outcome }
-    ensures out_after { out.new ≡ (write_setup
-        (facility_with switches users (users_from clearances.now roles.now trusts.now clearancesets.now) entered
-        (objects_from lives.now kinds.now levels.now categories.now datatypes.now
-        flags.now parents.now sets.now))
-        out.old).buffer }
+// Writes a facility's set-up into a lent buffer that holds it all; else the buffer stays as it is. A first pass over none of the buffer tells the length.
+pub fn write_setup<S: FacilityStore>(s: &S, out: &mut [u8]) -> WriteOutcome
+    ensures value { result ≡ (write_setup (S.facility s.now) out.old).outcome }
+    ensures out_after { out.new ≡ (write_setup (S.facility s.now) out.old).buffer }
 {
-    let need = put_sections(
-        &mut out[..0],
-        switches,
-        users,
-        clearances,
-        roles,
-        trusts,
-        clearancesets,
-        entered,
-        lives,
-        kinds,
-        levels,
-        categories,
-        datatypes,
-        flags,
-        parents,
-        sets,
-    );
+    let need = put_sections(&mut out[..0], s);
     if out.len() < need {
-        return WriteOutcome::NoRoom;
+        return Err(NoRoom);
     }
-    let length = put_sections(
-        out,
-        switches,
-        users,
-        clearances,
-        roles,
-        trusts,
-        clearancesets,
-        entered,
-        lives,
-        kinds,
-        levels,
-        categories,
-        datatypes,
-        flags,
-        parents,
-        sets,
-    );
-    WriteOutcome::Written { length }
-}
-
-// Writes a facility's set-up.
-pub fn write_setup(f: Facility, out: &mut [u8]) -> WriteOutcome
-    ensures value { result ≡ (write_setup f out.old).outcome }
-    ensures out_after { out.new ≡ (write_setup f out.old).buffer }
-{
-    let switches = Switches {
-        mac: f.mac,
-        fc: f.fc,
-        sim: f.sim,
-        ff: f.ff,
-    };
-    write_parts(
-        out,
-        switches,
-        f.users,
-        &f.clearances,
-        &f.roles,
-        &f.trusts,
-        &f.clearancesets,
-        f.entered,
-        &f.lives,
-        &f.kinds,
-        &f.levels,
-        &f.categories,
-        &f.datatypes,
-        &f.flags,
-        &f.parents,
-        &f.sets,
-    )
+    Ok(put_sections(out, s))
 }

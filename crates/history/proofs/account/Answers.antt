@@ -1,28 +1,21 @@
--- The result is `ledger_of setup (calls_of calls)`.
-use mathlib.Core.Path.{sym, ◌∙◌}
-use borrow.Author.Rules.{rules}
-use Rattle.history.specs.Laws.CallBytes.{account_begins, account_goes_on, account_done}
+-- The calls that are left, told to the account so far.
+use Rattle.std.specs.Prelude.{◌*◌}
+use Rattle.std.proofs.Common.{sym, ◌∙◌, rules}
+use Rattle.history.specs.Laws.CallBytes.{account_begins, account_done, next_account, no_more_calls}
 use Rattle.history.proofs.account.Goals as goal
 
-pub loop-i-init : goal.loop-i-init
-loop-i-init c = (search rules, account_begins _ _ _ _ c.read_setup-reading.ensures c.start-l.ensures)
+pub loop-k-init : goal.loop-k-init
+loop-k-init c = account_begins _ _ _ _ c.read_setup.ensures c.start-l.ensures
 
-pub loop-i-smaller : goal.loop-i-smaller
-loop-i-smaller c =
-    let l = c.loop-i in search (rules, l.invariant.0, c.loop-i-test.true)
-
-pub loop-i-preserved : goal.loop-i-preserved
-loop-i-preserved c =
-    let l = c.loop-i in
-    let s = c.args.calls.now in
-    let t = c.loop-i-test.true in (
-      search (rules, l.invariant.0, t),
-      l.invariant.1
-          ∙ account_goes_on l.f l.l _ s l.i _ _ _ (search (rules, l.invariant.0, t)) c.call_at-call.ensures c.enforce-enforced.ensures
-          c.number.ensures c.step-l.ensures,
-    )
+pub loop-k-preserved : goal.loop-k-preserved
+loop-k-preserved c =
+    let l = c.loop-k in
+    l.invariant
+    ∙ next_account l.f c.enforce-outcome.new.s l.l _ c.args.calls.now l.k _ _ _ (search rules) c.call_at-c.ensures
+    c.enforce-outcome.ensures.value c.enforce-outcome.ensures.becomes c.number.ensures c.step-l.ensures
 
 pub returns : goal.returns
 returns c =
-    let l = c.loop-i in
-    let s = c.args.calls.now in sym (l.invariant.1 ∙ account_done l.f l.l s l.i (search (rules, l.invariant.0, c.loop-i-test.false)))
+    let l = c.loop-k in
+    let s = c.args.calls.now in
+    sym (l.invariant ∙ account_done l.f l.l s (4 * l.k) (no_more_calls s l.k (search rules)))

@@ -9,5 +9,5 @@ use Rattle.history.proofs.holds.Goals as goal
 pub returns : goal.returns
 returns c =
     let a = c.args in
-    c.object_holds.ensures ∙ ap (λ (l : Ledger). held_by l.objects a.x a.c) c.account-l.ensures
+    c.object_holds.ensures ∙ ap (λ (l : Ledger). held_by l.objects a.x a.c) c.account.ensures
     ∙ held_exactly a.setup.now (calls_of a.calls.now) a.x a.c

@@ -1,12 +1,12 @@
 -- A list of calls, four bytes after four bytes.
-use Rattle.std.specs.Prelude.{ℕ, ◌+◌, ◌%◌, ◌≤◌, suc, ◌<◌, ◌≡◌, refl, List, ◌∷◌, [], ◌++◌, true, length, drop, eqb}
+use Rattle.std.specs.Prelude.{ℕ, ◌+◌, ◌*◌, ◌/◌, ◌%◌, ◌≤◌, suc, ◌<◌, ◌≡◌, refl, List, ◌∷◌, [], ◌++◌, true, length, drop, eqb}
 use Rattle.std.proofs.Common.{sym, ◌∙◌, ap, length-drop, drop-cons, arith}
 use Rattle.std.proofs.Math.ListN.{get_or-eq_default}
 use Rattle.labels.specs.Decisions.{at}
 use Rattle.history.specs.CallBytes.{call_from, call_bytes, all_bytes}
 use Rattle.rules.specs.Lines.{calls_of}
 use Rattle.state.specs.declared.Facility.{Facility}
-use Rattle.rules.specs.Calls.{after, accepted, enforce}
+use Rattle.rules.specs.Calls.{after, accepted, enforce, query}
 use Rattle.rules.specs.Histories.{run, history}
 use Rattle.state.specs.declared.Call.{Call}
 use Rattle.matter.specs.declared.Ledger.{Ledger}
@@ -14,6 +14,7 @@ use Rattle.matter.specs.LedgerSteps.{step_of, start_of}
 use Rattle.matter.specs.AfterCalls.{ledger_after, ledger_of}
 use Rattle.rules.specs.declared.Reading.{Reading}
 use Rattle.rules.specs.Setup.{read_setup}
+use Rattle.answers.specs.declared.Outcome.{Outcome}
 use Rattle.answers.specs.Outcomes.{number_of}
 use Rattle.rules.specs.declared.Enforced.{Enforced}
 use Rattle.questions.specs.Laws.Calls.{enforced_accepted}
@@ -100,6 +101,26 @@ account_goes_on f a b l i c e n h q r s t =
     account_more f a l i h
     ∙ sym (ap (λ (g : Ledger). ledger_after g (history e.facility (calls_of (drop (i + 4) l)))) y
     ∙ ap (λ (g : Enforced). ledger_after (step_of a (call_from l i) (accepted f (call_from l i))) (history g.facility (calls_of (drop (i + 4) l)))) x)
+
+-- the same by the number k of a call
+pub next_run : (f : Facility) (l : List ℕ) (k : ℕ) → k < length l / 4
+    → run f (calls_of (drop (4 * k) l)) ≡ run (after f (call_from l (4 * k))) (calls_of (drop (4 * (k + 1)) l))
+next_run f l k h =
+    let b : 4 * k + 4 ≤ length l = omega arith in
+    let e : 4 * k + 4 ≡ 4 * (k + 1) = omega arith in
+    run_more f l (4 * k) b ∙ ap (λ (i : ℕ). run (after f (call_from l (4 * k))) (calls_of (drop i l))) e
+
+pub next_account : (f g : Facility) (a b : Ledger) (l : List ℕ) (k : ℕ) (c : Call) (o : Outcome) (n : ℕ) → k < length l / 4
+    → c ≡ call_from l (4 * k) → o ≡ query f c → g ≡ after f c → n ≡ number_of o → b ≡ step_of a c (eqb n 0)
+    → ledger_after a (history f (calls_of (drop (4 * k) l))) ≡ ledger_after b (history g (calls_of (drop (4 * (k + 1)) l)))
+next_account f g a b l k c o n h q r w s t =
+    let d : 4 * k + 4 ≤ length l = omega arith in
+    let e : 4 * k + 4 ≡ 4 * (k + 1) = omega arith in
+    account_goes_on f a b l (4 * k) c (record { facility = g; outcome = o }) n d q (λ i. record { facility = w i; outcome = r i }) s t
+    ∙ ap (λ (i : ℕ). ledger_after b (history g (calls_of (drop i l)))) e
+
+pub no_more_calls : (l : List ℕ) (k : ℕ) → length l / 4 ≤ k → length l < 4 * k + 4
+no_more_calls l k h = omega arith
 
 pub account_done : (f : Facility) (a : Ledger) (l : List ℕ) (i : ℕ) → length l < i + 4 → ledger_after a (history f (calls_of (drop i l))) ≡ a
 unfolding ledger_after history

@@ -14,9 +14,9 @@ returns c =
     let w = c.ranges in
     let o = c.put_outcome-p1.ensures in
     let first = outcome_text a.index a.c a.outcome in
-    let second = level_part a.running a.level in
+    let second = level_part a.caller.running a.caller.current.level in
     let s0 = then a.out.now _ _ a.place _ _ first second o.stored c.put_level-p2.ensures in record {
       stored = then a.out.now _ _ a.place _ _ (first ++ second) (10 ∷ []) s0 c.put_text.ensures;
-      level_len_bound = line_short a.index a.c a.outcome a.running a.level (search (rules, w)) (search (rules, g)) (search (rules, g)) (search (rules, g))
+      level_len_bound = line_short a.index a.c a.outcome a.caller.running a.caller.current.level (search (rules, w)) (search (rules, g)) (search (rules, g)) (search (rules, g))
           (search (rules, g.1.1)) o.outcome_bound o.outcome_bound_2 (search (rules, w));
     }

@@ -1,64 +1,57 @@
--- What is left to print, stored behind what is printed, makes the whole; each turn prints one line.
-use Prim.Native.Nat.{◌+◌, ◌≤◌}
-use mathlib.Core.Path.{ap}
-use Rattle.rules.specs.declared.Enforced.{Enforced}
-use native.Mathlib.Omega.{arith}
-use borrow.Author.Rules.{rules}
-use Rattle.lines.proofs.Blocks.{left_begins, left_goes_on, block_none, block_done}
+-- The lines of the calls that are left, stored behind those so far, make the whole.
+use Rattle.std.specs.Prelude.{ℕ, ◌+◌, ◌*◌, ◌/◌, ◌≡◌, ◌≤◌, ◌<◌, length}
+use Rattle.std.proofs.Common.{arith, rules, subst, sym}
+use Rattle.rules.specs.Calls.{after}
+use Rattle.state.specs.declared.Facility.{Facility}
+use Rattle.lines.proofs.Blocks.{Left, left_begins, left_next, process_bytes_law, block_none, block_done}
 use Rattle.lines.proofs.put_lines.Goals as goal
 
 pub returns-then-first-ge9223372036854775808 : goal.returns-then-first-ge9223372036854775808
-returns-then-first-ge9223372036854775808 c =
+returns-then-first-ge9223372036854775808 g c =
     let a = c.args in
-    let b = block_none a.out.now a.first a.start a.calls.now c.if-first-ge9223372036854775808.true in
+    let f = g.S.FacilityStore.facility a.s.now in
+    let b = block_none a.out.now a.first f a.calls.now c.if-first-ge9223372036854775808.true in
     record {
       stored = b.stored;
-      facility_value = b.facility;
+      becomes = subst (λ (x : Facility). g.S.FacilityStore.becomes a.s.now a.s.now x) b.facility (g.met.S.FacilityStore.unchanged a.s.now);
       calls_len_bound = b.most;
     }
 
-pub loop-i-init : goal.loop-i-init
-loop-i-init c =
+pub loop-k-init : goal.loop-k-init
+loop-k-init g c =
     let a = c.args in
-    (search rules, (let q : a.first ≤ a.first + 0 = omega arith in q), left_begins a.out.now a.first _ a.calls.now)
+    let f = g.S.FacilityStore.facility a.s.now in
+    let e : a.first ≡ a.first + 0 = omega arith in (
+      subst (λ (n : ℕ). Left a.out.now a.first f a.calls.now a.out.now 0 n f 0) e (left_begins a.out.now a.first f a.calls.now),
+      g.met.S.FacilityStore.unchanged a.s.now,
+    )
 
-pub overflow_sub-n : goal.overflow_sub-n
-overflow_sub-n c = let l = c.loop-i in search (rules, l.invariant.0)
-
-pub overflow_add-i : goal.overflow_add-i
-overflow_add-i c = let l = c.loop-i in search (rules, l.invariant.0)
-
-pub overflow_add-index : goal.overflow_add-index
-overflow_add-index c = let l = c.loop-i in search (rules, l.invariant.0, l.invariant.1, c.if-first-ge9223372036854775808.false)
-
-pub loop-i-smaller : goal.loop-i-smaller
-loop-i-smaller c =
-    search (rules, c.loop-i.invariant.0, c.loop-i-test.true)
-
-pub loop-i-preserved : goal.loop-i-preserved
-loop-i-preserved c =
-    let l = c.loop-i in
+pub loop-k-preserved : goal.loop-k-preserved
+loop-k-preserved g c =
+    let l = c.loop-k in
     let a = c.args in
-    let t = c.loop-i-test.true in
-    let e = c.enforce-enforced.ensures in
-    let p = c.put_line-place.ensures in (
-      search (rules, l.invariant.0, t),
-      search (rules, l.invariant.1),
-      left_goes_on a.out.now a.first _ a.calls.now l.out l.place l.index l.f l.i _ _ _ _ _ _ _ l.invariant.2
-          (search (rules, l.invariant.0, t))
-          c.call_at-c.ensures (ap (λ (x : Enforced). x.outcome) e) (ap (λ (x : Enforced). x.facility) e) c.at-running.ensures
-          c.at-level.ensures
-          p.stored p.level_len_bound,
+    let f = g.S.FacilityStore.facility l.s in
+    let e = c.enforce-outcome.ensures in
+    let h = g.met.S.FacilityStore.stores l.s c.enforce-outcome.new.s _ e.becomes in
+    let b = process_bytes_law _ (g.S.FacilityStore.facility c.enforce-outcome.new.s) _ c.process-caller.ensures in
+    let p = c.put_line-place.ensures in
+    let t = g.met.S.FacilityStore.then a.s.now l.s c.enforce-outcome.new.s f (λ (x : Facility). after f c.call_at-c.result) l.invariant.1 e.becomes in (
+      left_next a.out.now a.first _ a.calls.now l.out l.place f l.k _ _ _ _ _ _ _ l.invariant.0 (search rules)
+          c.call_at-c.ensures e.value h b.0 b.1 p.stored p.level_len_bound,
+      subst (λ (x : Facility). g.S.FacilityStore.becomes a.s.now c.enforce-outcome.new.s x) (sym h) t,
     )
 
 pub returns : goal.returns
-returns c =
-    let l = c.loop-i in
+returns g c =
+    let l = c.loop-k in
     let a = c.args in
-    let b = block_done a.out.now a.first a.start a.calls.now l.out l.place l.index l.f l.i
-    (search (rules, c.if-first-ge9223372036854775808.false)) l.invariant.2 l.invariant.0 (search (rules, l.invariant.0, c.loop-i-test.false)) in
+    let f = g.S.FacilityStore.facility a.s.now in
+    let k : length a.calls.now / 4 ≤ l.k = search rules in
+    let b =
+    block_done a.out.now a.first f a.calls.now l.out l.place _ (g.S.FacilityStore.facility l.s) (4 * l.k)
+    c.if-first-ge9223372036854775808.false l.invariant.0 (omega (arith, l.auto.k-end)) (omega (arith, k)) in
     record {
       stored = b.stored;
-      facility_value = b.facility;
+      becomes = subst (λ (x : Facility). g.S.FacilityStore.becomes a.s.now l.s x) b.facility l.invariant.1;
       calls_len_bound = b.most;
     }

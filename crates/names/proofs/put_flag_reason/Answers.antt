@@ -5,15 +5,13 @@ use Rattle.rules.specs.Lines.{decimal}
 use Rattle.rules.specs.Text.{ascii}
 use Rattle.names.specs.Words.{flag_word}
 use Rattle.names.specs.Reasons.{flag_reason}
-use Rattle.text.specs.Laws.Stored.{store_empty}
 use Rattle.text.specs.Laws.Stores.{end, ◌▸◌, stores}
 use Rattle.names.proofs.put_flag_reason.Goals as goal
 
 pub returns-then-flag-eq0 : goal.returns-then-flag-eq0
 unfolding flag_reason
 returns-then-flag-eq0 c =
-    let a = c.args in
-    rw (eq-eqb _ 0 c.if-flag-eq0.true) (store_empty a.out.now a.place _ c.least.ensures)
+    rw (eq-eqb _ 0 c.if-flag-eq0.true) c.put_nothing.ensures
 
 pub returns : goal.returns
 unfolding flag_reason

@@ -1,23 +1,26 @@
--- The letters, one behind the other.
-use mathlib.Core.List.{[], ◌∷◌}
-use mathlib.Core.Path.{◌∙◌}
-use Rattle.rules.specs.Text.{ascii}
+-- Each letter is stored behind those before it.
+use Prim.Native.Nat.{suc, ◌+◌}
+use mathlib.Core.Path.{◌≡◌, ap, sym, ◌∙◌}
+use mathlib.Core.List.{[], ◌∷◌, ◌++◌}
+use native.Mathlib.Omega.{arith}
 use Rattle.names.specs.Words.{letter_word, letters_of}
-use Rattle.text.specs.Laws.Stores.{end, ◌▸◌, stores}
+use Rattle.names.specs.Reasons.{text_if}
+use Rattle.names.proofs.Letters.{letters_to}
+use Rattle.text.specs.Laws.Stored.{as_text, then}
 use Rattle.names.proofs.put_letters.Goals as goal
 
-pub shape_of-out : goal.shape_of-out
-shape_of-out c =
-    c.put_letter.auto.out ∙ c.put_letter-p-7.auto.out ∙ c.put_letter-p-6.auto.out ∙ c.put_letter-p-5.auto.out ∙ c.put_letter-p-4.auto.out
-    ∙ c.put_letter-p-3.auto.out ∙ c.put_letter-p-2.auto.out ∙ c.put_letter-p.auto.out
+pub loop-k-preserved : goal.loop-k-preserved
+unfolding letter_word text_if
+loop-k-preserved c =
+    let a = c.args in
+    let l = c.loop-k in
+    let e : l.k + 1 ≡ suc l.k = omega arith in
+    as_text a.out.now _ _ _ a.place _ (ap (λ b. letters_to a.s l.k ++ text_if b ((97 + l.k) ∷ [])) c.has.ensures ∙ ap (letters_to a.s) (sym e))
+    (then a.out.now l.out _ a.place l.p _ (letters_to a.s l.k) _ l.invariant c.put_if-p.ensures)
 
 pub returns : goal.returns
 unfolding letters_of
 returns c =
-    let a = c.args in
-    let s = a.s in
-    stores a.out.now a.place (letter_word 1 (ascii "a") s)
-    (letter_word 2 (ascii "b") s ∷ letter_word 4 (ascii "c") s ∷ letter_word 8 (ascii "d") s
-    ∷ letter_word 16 (ascii "e") s ∷ letter_word 32 (ascii "f") s ∷ letter_word 64 (ascii "g") s ∷ letter_word 128 (ascii "h") s ∷ [])
-    (c.put_letter-p.ensures ▸ c.put_letter-p-2.ensures ▸ c.put_letter-p-3.ensures ▸ c.put_letter-p-4.ensures
-    ▸ c.put_letter-p-5.ensures ▸ c.put_letter-p-6.ensures ▸ c.put_letter-p-7.ensures ▸ c.put_letter.ensures ▸ end)
+    let l = c.loop-k in
+    let e : l.k ≡ 8 = omega arith in
+    as_text c.args.out.now _ _ _ c.args.place _ (ap (letters_to c.args.s) e) l.invariant

@@ -14,5 +14,5 @@ returns c =
     (text_if w.fixed (ascii " (automatic off)") ∷ text_if w.clearance (ascii " (label not under the clearance)")
     ∷ text_if w.writemark (ascii " (label not under the write mark)") ∷ text_if w.readmark (ascii " (label not over the read mark)")
     ∷ text_if w.receiver (ascii " (current labels differ)") ∷ [])
-    (c.put_reason-p.ensures ▸ c.put_reason-p-2.ensures ▸ c.put_reason-p-3.ensures ▸ c.put_reason-p-4.ensures ▸ c.put_reason-p-5.ensures
-    ▸ c.put_reason.ensures ▸ end)
+    (c.put_if-p.ensures ▸ c.put_if-p-2.ensures ▸ c.put_if-p-3.ensures ▸ c.put_if-p-4.ensures ▸ c.put_if-p-5.ensures
+    ▸ c.put_if.ensures ▸ end)

@@ -12,4 +12,4 @@ returns c =
     let w = a.w in
     stores a.out.now a.place (text_if w.nocategory (ascii " (category unset)"))
     (text_if w.category (ascii " (category not of the role)") ∷ text_if w.datatype (ascii " (security information, not security officer)") ∷ [])
-    (c.put_reason-p.ensures ▸ c.put_reason-p-2.ensures ▸ c.put_reason.ensures ▸ end)
+    (c.put_if-p.ensures ▸ c.put_if-p-2.ensures ▸ c.put_if.ensures ▸ end)

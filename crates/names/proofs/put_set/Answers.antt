@@ -2,7 +2,6 @@
 use mathlib.Core.List.{[], ◌∷◌}
 use borrow.Author.Tests.{eq-eqb, ne_eqb}
 use Rattle.rules.specs.Text.{ascii}
-use Rattle.text.specs.Laws.Stored.{store_empty}
 use Rattle.text.specs.Laws.Stores.{end, ◌▸◌, stores}
 use Rattle.names.specs.Words.{letters_of, set_word}
 use Rattle.names.proofs.put_set.Goals as goal
@@ -10,8 +9,7 @@ use Rattle.names.proofs.put_set.Goals as goal
 pub returns-then-s-eq0 : goal.returns-then-s-eq0
 unfolding set_word
 returns-then-s-eq0 c =
-    let a = c.args in
-    rw (eq-eqb _ 0 c.if-s-eq0.true) (store_empty a.out.now a.place _ c.least.ensures)
+    rw (eq-eqb _ 0 c.if-s-eq0.true) c.put_nothing.ensures
 
 pub returns-then-s-eq-ALL_CATEGORIES : goal.returns-then-s-eq-ALL_CATEGORIES
 unfolding set_word

@@ -1,15 +1,9 @@
 -- One store for each object, which together are the opens with those of process p copied to t.
-use Prim.Native.Nat.{◌-◌, ◌≤◌}
-use mathlib.Core.Path.{◌≡◌}
+use Rattle.std.specs.Prelude.{◌≡◌}
 use Rattle.labels.specs.Decisions.{at}
-use Rattle.opens.specs.Opens.{most_objects, place}
+use Rattle.opens.specs.Opens.{place}
 use Rattle.opens.specs.Laws.Loops.{puts}
 use Rattle.opens.proofs.copy_marks.Given as goal
 
 abbrev pub invariant-loop-k : goal.invariant-loop-k
-invariant-loop-k l =
-    (l.k ≤ most_objects) × (l.marks ≡ puts l.initial.marks (λ j. place l.t j) (λ j. at l.initial.marks (place l.p j)) l.k)
-
-abbrev pub decreases-loop-k : goal.decreases-loop-k
-decreases-loop-k l =
-    most_objects - l.k
+invariant-loop-k l = l.marks ≡ puts l.initial.marks (λ j. place l.t j) (λ j. at l.initial.marks (place l.p j)) l.k

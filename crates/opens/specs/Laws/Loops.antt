@@ -1,9 +1,14 @@
 -- The loops make what the definitions say.
-use Rattle.std.specs.Prelude.{ℕ, suc, ◌+◌, zero, ◌<◌, ◌/◌, ◌%◌, ◌≤◌, ◌≡◌, refl, List, [], ◌∷◌, ◌++◌, ◌≢◌, cond, length, set, eqb}
-use Rattle.std.proofs.Common.{◌∙◌, ap, sym, length-set, get_or-set_other, get_or-set_same, ext_get_or, arith, add-one, eq-eqb, ne_eqb}
+use Rattle.std.specs.Prelude.{ℕ, suc, ◌+◌, ◌-◌, ◌*◌, min, zero, ◌<◌, ◌/◌, ◌%◌, ◌≤◌, ◌≡◌, refl, List, [], ◌∷◌, ◌++◌, ◌≢◌, cond, length, set, eqb, ltb, take, drop, replicate}
+use Rattle.std.specs.List.{CopiedTo, SameBelow, SameFrom}
+use Rattle.std.proofs.Common.{◌∙◌, ap, sym, length-set, get_or-set_other, get_or-set_same, ext_get_or, arith, add-one, eq-eqb, ne_eqb, length-take-le}
+use Rattle.std.proofs.Common.{length-drop, ltb-true, ltb-false}
+use Rattle.std.proofs.Math.ListN.{get_or-append}
+use Rattle.std.proofs.lemmas.List.{get_or-take, get_or-append_right, get_or-drop, get_or-replicate, length-replicate}
+use borrow.Rule.Slice.PartMut.{put_mid, same_len_mid}
 use Rattle.std.proofs.lemmas.List.Edits.{sets}
 use Rattle.labels.specs.Decisions.{at}
-use Rattle.labels.proofs.Laws.Decisions.{by_eq}
+use Rattle.labels.proofs.Laws.Decisions.{by_eq, by_test}
 use Rattle.opens.specs.Laws.Opens.{length_build, at_build}
 use Rattle.opens.specs.Opens.{most_opens, build, most_objects, place, most_processes, close_process, copy_process, close_object}
 
@@ -78,14 +83,64 @@ row_filled l p n v all most =
         ap (λ (j : ℕ). at (puts l (λ k. place p k) v n) j) w
         ∙ at_puts l (λ k. place p k) v n (i % most_objects) (all (i % most_objects) (omega arith) (omega arith)) (omega arith) (λ k d. omega arith)
 
+-- What stands before, in and behind a part that has been replaced.
+at_before : (l ys : List ℕ) (a k i : ℕ) → a ≤ length l → i < a → at (put_mid a k l ys) i ≡ at l i
+at_before l ys a k i h b =
+    let n : length (take a l) ≡ a = length-take-le a l h in
+    let c : i < length (take a l) = omega arith in
+    get_or-append (take a l) _ 0 i c ∙ get_or-take a l i 0 b
+
+at_within : (l ys : List ℕ) (a k i : ℕ) → a ≤ length l → length ys ≡ k → a ≤ i → i < a + k → at (put_mid a k l ys) i ≡ at ys (i - a)
+at_within l ys a k i h e b c =
+    let d : i - a < length ys = omega arith in
+    get_or-append_right (take a l) _ a i 0 (length-take-le a l h) b ∙ get_or-append ys _ 0 (i - a) d
+
+at_behind : (l ys : List ℕ) (a k i : ℕ) → a ≤ length l → length ys ≡ k → a + k ≤ i → at (put_mid a k l ys) i ≡ at l i
+at_behind l ys a k i h e b =
+    let c : a ≤ i = omega arith in
+    let d : k ≤ i - a = omega arith in
+    let n : a + (k + (i - a - k)) ≡ i = omega arith in
+    get_or-append_right (take a l) _ a i 0 (length-take-le a l h) c
+    ∙ get_or-append_right ys _ k (i - a) 0 e d
+    ∙ get_or-drop k (drop a l) (i - a - k) 0
+    ∙ get_or-drop a l (k + (i - a - k)) 0
+    ∙ ap (at l) n
+
 pub row_cleared : (l : List ℕ) (p n : ℕ) → ((k : ℕ) → k < most_objects → place p k < length l → k < n) → n ≤ most_objects
     → puts l (λ k. place p k) (λ k. 0) n ≡ close_process l p
 unfolding close_process
 row_cleared l p n all most = row_filled l p n (λ k. 0) all most
 
+-- The same, at once: the part of the row that the list has becomes zeros.
+pub row_zeroed : (l : List ℕ) (p a e : ℕ) → a ≡ min (place p 0) (length l) → e ≡ min (a + most_objects) (length l)
+    → put_mid a (e - a) l (replicate (e - a) 0) ≡ close_process l p
+unfolding close_process
+row_zeroed l p a e s t =
+    let z = length-replicate (e - a) 0 in
+    let h : a ≤ length l = omega arith in
+    same_opens l _ _ (same_len_mid a (e - a) l _ (z ∙ sym (length-take-le (e - a) (drop a l) (let d = length-drop a l in omega arith))))
+    (λ i b. by_eq (i / most_objects) p
+    (λ q. rw (eq-eqb (i / most_objects) p q) (at_within l _ a (e - a) i h z (omega arith) (omega arith) ∙ get_or-replicate (e - a) (i - a) 0 0 (omega arith)))
+    (λ d. rw (ne_eqb (i / most_objects) p d) (by_test (ltb i a)
+    (λ c. at_before l _ a (e - a) i h (ltb-true i a c))
+    (λ c. at_behind l _ a (e - a) i h z (let g = ltb-false i a c in omega arith)))))
+
 pub row_copied : (l : List ℕ) (p t : ℕ) → puts l (λ k. place t k) (λ k. at l (place p k)) most_objects ≡ copy_process l p t
 unfolding copy_process
 row_copied l p t = row_filled l t most_objects (λ k. at l (place p k)) (λ k h b. h) (omega arith)
+
+-- The same, where both rows are there whole: what a copy of the whole row comes to.
+pub whole_row_copied : (l m : List ℕ) (p t n : ℕ) → length m ≡ length l → n ≡ most_objects → CopiedTo l m (p * most_objects) (t * most_objects) n
+    → SameBelow l m (t * most_objects) → SameFrom l m (t * most_objects + n) → m ≡ copy_process l p t
+unfolding copy_process
+whole_row_copied l m p t n e z copied below from =
+    same_opens l m _ e
+    (λ i b. by_eq (i / most_objects) t
+    (λ q. rw (eq-eqb (i / most_objects) t q)
+    (copied i 0 (omega arith) (omega arith) ∙ ap (at l) (let k : p * most_objects + (i - t * most_objects) ≡ place p (i % most_objects) = omega arith in k)))
+    (λ d. rw (ne_eqb (i / most_objects) t d) (by_test (ltb i (t * most_objects))
+    (λ c. below i 0 (ltb-true i (t * most_objects) c))
+    (λ c. from i 0 (let g = ltb-false i (t * most_objects) c in omega arith)))))
 
 -- Column t is cleared: a store for each row, until the next one is past the end.
 pub column_cleared : (l : List ℕ) (t n : ℕ) → t < most_objects → length l ≤ place n t → puts l (λ k. place k t) (λ k. 0) n ≡ close_object l t

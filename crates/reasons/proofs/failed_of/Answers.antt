@@ -4,7 +4,7 @@ use Rattle.reasons.proofs.Found.{failed_found}
 use Rattle.reasons.proofs.failed_of.Goals as goal
 
 pub returns : goal.returns
-returns c =
+returns g c =
     let v = c.view_of-v.ensures in
     let a = c.args in
-    failed_found a.f a.c _ _ _ _ v (enforced_outcome a.f a.c _ _ c.outcome_in-o.ensures v) c.number.ensures c.failed_by.ensures
+    failed_found (g.S.FacilityStore.facility a.s.now) a.c _ _ _ _ v (enforced_outcome (g.S.FacilityStore.facility a.s.now) a.c _ _ c.outcome_in-o.ensures v) c.number.ensures c.failed_by.ensures

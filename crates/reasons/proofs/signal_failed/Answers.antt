@@ -1,8 +1,9 @@
--- The result is `signal_failed r u receiver`.
+-- The result is `signal_failed`.
+use Rattle.std.proofs.Common.{rules}
 use Rattle.labels.specs.Decisions.{◌or◌}
 use Rattle.reasons.specs.Reasons.{signal_failed}
 use Rattle.reasons.proofs.signal_failed.Goals as goal
 
 pub returns : goal.returns
 unfolding signal_failed ◌or◌
-returns c = rw (c.nothing_of_mac-m.ensures, c.same-equal.ensures)
+returns c = search rules

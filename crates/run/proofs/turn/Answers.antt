@@ -10,7 +10,7 @@ returns-then-input g c =
 pub returns : goal.returns
 returns g c =
     let r = c.read_calls-input in
-    let p = c.put_block_in-length in
+    let p = c.put_block-length in
     let w = c.write_lines-written in
     turn_written c.args.kept c.args.done c.args.f.now p.new.s r.new.bytes c.args.out.now p.new.out r.result p.result w.result
     r.ensures.calls_read c.if-input.false p.ensures.becomes p.ensures.stored p.ensures.calls_len_bound p.ensures.prefix_len.1

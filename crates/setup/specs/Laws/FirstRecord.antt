@@ -4,7 +4,7 @@ use Rattle.std.proofs.Math.Bool.{true}
 use Rattle.std.proofs.Common.{◌∙◌, ap, subst, arith, eq-eqb, eqb-true, ne_eqb}
 use Rattle.std.proofs.Math.Path.{sym}
 use Rattle.std.proofs.Math.Dec.{eqb}
-use Rattle.answers.specs.declared.SetupOutcome.TheVariants.{Accepted}
+use Rattle.answers.specs.Outcomes.{setup_accepted}
 use Rattle.labels.specs.Decisions.{ask}
 use Rattle.labels.proofs.Laws.Decisions.{ask_yes, by_eq, by_test}
 use Rattle.rules.specs.declared.SetupRecord.{SetupRecord}
@@ -92,6 +92,6 @@ module _ (s : List ℕ) (n k : ℕ) (f : Facility) (p : Progress) (r : SetupReco
       ap (λ (m : ℕ). refused_setup m k) same_number ∙ stops s n k (built_at k f) p r h A this (λ e. z (same_number ∙ e))
 
 pub from_ends : (s : List ℕ) (n k : ℕ) (f : Facility) (p : Progress) → 1 ≤ n → n ≤ k → From s n k f p
-    → record { outcome = Accepted; facility = f } ≡ enter_all [] (blank all_off) (records_of n s)
+    → record { outcome = setup_accepted; facility = f } ≡ enter_all [] (blank all_off) (records_of n s)
 from_ends s n k f p m h A =
-    (λ i. record { outcome = Accepted; facility = sym (later k f (λ e. omega arith)) i }) ∙ ends s n k (built_at k f) p h A
+    (λ i. record { outcome = setup_accepted; facility = sym (later k f (λ e. omega arith)) i }) ∙ ends s n k (built_at k f) p h A

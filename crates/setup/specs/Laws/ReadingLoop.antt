@@ -12,7 +12,7 @@ use Rattle.setup.specs.Laws.SameNumber.{Kept, none, number_by, number_same, kept
 use Rattle.rules.specs.Kinds.{record_number}
 use Rattle.rules.proofs.Records.{accepts}
 use Rattle.rules.proofs.Fresh.{Read, read_record, read_none}
-use Rattle.answers.specs.declared.SetupOutcome.TheVariants.{Accepted}
+use Rattle.answers.specs.Outcomes.{setup_accepted}
 use Rattle.labels.proofs.Laws.Decisions.{and_l, and_r}
 
 -- the records from k on, of n in the bytes s
@@ -90,7 +90,7 @@ module _ (s : List ℕ) (n k : ℕ) (f : Facility) (p : Progress) (r : SetupReco
       ∙ rw (ne_eqb _ 0 (λ y. z (number_is ∙ y))) (λ i. refused_setup (sym number_is i) (past_length s k i)))
 
 pub ends : (s : List ℕ) (n k : ℕ) (f : Facility) (p : Progress) → n ≤ k → At s n k f p
-    → record { outcome = Accepted; facility = f } ≡ enter_all [] (blank all_off) (records_of n s)
+    → record { outcome = setup_accepted; facility = f } ≡ enter_all [] (blank all_off) (records_of n s)
 unfolding enter_all records_of
 ends s n k f p h A =
     let e : n - k ≡ 0 = omega arith in

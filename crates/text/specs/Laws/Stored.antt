@@ -1,7 +1,8 @@
 -- Texts stored one after the other.
-use Rattle.std.specs.Prelude.{ℕ, suc, ◌≤◌, ◌+◌, min, ◌<◌, ◌-◌, ◌≡◌, refl, List, [], ◌∷◌, ◌++◌, length, set, drop, get_or, leb}
-use Rattle.std.proofs.Common.{◌∙◌, ap, sym, subst, length-append, drop-cons, length-take-le, arith, leb-true, leb-false}
-use Rattle.std.proofs.lemmas.List.Edits.{sets}
+use Rattle.std.specs.Prelude.{ℕ, suc, ◌≤◌, ◌+◌, min, ◌<◌, ◌-◌, ◌≡◌, refl, List, [], ◌∷◌, ◌++◌, length, set, take, drop, get_or, leb}
+use Rattle.std.proofs.Common.{◌∙◌, ap, sym, subst, length-append, length-take-le, take_all, drop-cons, drop-drop, append_assoc, arith, leb-true, leb-false}
+use Rattle.std.proofs.lemmas.List.{take-append-drop}
+use Rattle.std.proofs.lemmas.List.Edits.{sets, sets-eq}
 use Rattle.std.proofs.Math.Seq.{set_out, length-sets, drop-length}
 use Rattle.opens.specs.Laws.Loops.{sets_append}
 use Rattle.labels.proofs.Laws.Decisions.{by_test}
@@ -38,6 +39,26 @@ then o l m p q r xs ys a b =
       b.0 ∙ ap (λ (x : List ℕ). sets x q ys) a.0 ∙ ap (λ (k : ℕ). sets (sets o p xs) k ys) a.1 ∙ cut_append o p xs ys,
       (let c = a.1 in let d = b.1 in omega arith),
     )
+
+-- the front of a text, as many bytes of it as there is room for, stored as one part of the buffer
+pub store_part : (o xs ys : List ℕ) (p n k : ℕ) → p < length o → n ≡ min (length xs) (length o - p) → k ≡ n → ys ≡ take n xs
+    → Stored o p xs (take p o ++ (ys ++ drop k (drop p o))) (p + n)
+store_part o xs ys p n k h e i t =
+    let l : length (take n xs) ≡ n = length-take-le n xs (omega arith) in
+    let part : take p o ++ (ys ++ drop k (drop p o)) ≡ sets o p (take n xs) =
+    ap (λ (z : List ℕ). take p o ++ (z ++ drop k (drop p o))) t
+    ∙ ap (λ (z : List ℕ). take p o ++ (take n xs ++ z))
+    (drop-drop k p o ∙ ap (λ (j : ℕ). drop j o) (let q : p + k ≡ p + length (take n xs) = omega arith in q))
+    ∙ sym (sets-eq (take n xs) o p (omega arith) ∙ append_assoc (take p o) (take n xs) (drop (p + length (take n xs)) o)) in
+    let rest : sets o p (take n xs) ≡ sets o p xs =
+    by_test (leb (length xs) n)
+    (λ b. ap (sets o p) (take_all n xs (leb-true (length xs) n b)))
+    (λ b.
+    let d = leb-false (length xs) n b in
+    let s = length-sets o p (take n xs) in
+    sym (sets_out (sets o p (take n xs)) (p + length (take n xs)) (drop n xs) (omega arith))
+    ∙ sets_append o p (take n xs) (drop n xs) ∙ ap (sets o p) (take-append-drop n xs)) in
+    (part ∙ rest, omega arith)
 
 -- one byte more of a text: what is left of it, stored behind, makes the whole
 pub store_more : (o l xs : List ℕ) (p j : ℕ) → j < length xs → sets l (p + j) (drop j xs) ≡ sets o p xs

@@ -1,10 +1,10 @@
--- The calls end, and no more are counted than there are bytes.
-use Prim.Native.Nat.{◌-◌, ◌≤◌}
+-- No more calls are counted than there are bytes.
+use Prim.Native.Nat.{◌+◌, ◌≤◌}
+use mathlib.Core.Path.{◌≡◌}
 use lib.ListN.{length}
+use Rattle.std.specs.Slice.Iter.{chunks_exact_rest, chunks_exact_size}
 use Rattle.trials.proofs.agreed.Given as goal
 
-abbrev pub invariant-loop-i : goal.invariant-loop-i
-invariant-loop-i l = (l.i ≤ length l.bytes) × (l.count ≤ l.i)
-
-abbrev pub decreases-loop-i : goal.decreases-loop-i
-decreases-loop-i l = l.n - l.i
+abbrev pub invariant-loop-bytes : goal.invariant-loop-bytes
+invariant-loop-bytes l =
+    (chunks_exact_size l.bytes-iterator ≡ 4) × (l.count + length (chunks_exact_rest l.bytes-iterator) ≤ length l.calls)

@@ -1,22 +1,13 @@
--- The line is of what is told of the call.
-use mathlib.Core.Path.{ap}
-use Rattle.rules.specs.declared.Enforced.{Enforced}
+-- The line of what is told of the call.
+use Rattle.std.proofs.Common.{ap}
 use Rattle.text.specs.Laws.Stored.{as_text, counts}
 use Rattle.words.specs.Sentences.{sentence_text, sentence}
-use Rattle.words.proofs.Parts.{told_enforced}
 use Rattle.words.proofs.tell.Goals as goal
 
 pub returns : goal.returns
-returns c =
+returns g c =
     let a = c.args in
-    let e = c.enforce-e.ensures in
-    let g = ap (λ (x : Enforced). x.facility) e in
-    let q = ap (λ (x : Enforced). x.outcome) e in
-    let h = told_enforced a.index a.f _ _ a.c _ c.told_of-t.ensures g q in
-    let t = sentence a.index a.f a.c in
-    let s = as_text a.out.now _ _ t a.place.now _ (ap sentence_text h) c.put_sentence.ensures in
-    record {
-      value = g;
-      stored = s;
-      prefix_len = counts a.out.now _ t a.place.now _ s;
-    }
+    let e = c.told_of.ensures in
+    let t = sentence a.index (g.S.FacilityStore.facility a.s.now) a.c in
+    let s = as_text a.out.now _ _ t a.place _ (ap sentence_text e.value) c.put_sentence.ensures in
+    record { stored = s; becomes = e.becomes; prefix_len = counts a.out.now _ t a.place _ s }

@@ -1,9 +1,15 @@
--- What is told is what the call looked at, what failed, its outcome, what it would look at after it, and the owner's counter.
-use Rattle.words.proofs.Parts.{parts_found}
+-- What the call looks at before and after it, and what it comes to.
+use Rattle.words.proofs.Parts.{told_found}
 use Rattle.words.proofs.told_of.Goals as goal
 
 pub returns : goal.returns
-returns c =
+returns g c =
     let a = c.args in
-    parts_found a.index a.f a.g a.c _ _ _ a.o _ _ c.view_of-before.ensures c.number.ensures c.reason_in-reason.ensures
-    c.view_of-later.ensures c.count_of-count.ensures
+    let f = g.S.FacilityStore.facility a.s.now in
+    let e = c.enforce-outcome.ensures in
+    let h = g.met.S.FacilityStore.stores a.s.now c.enforce-outcome.new.s _ e.becomes in
+    record {
+      value = told_found a.index f _ a.c _ _ _ _ _ _ _ c.view_of-before.ensures c.query-foretold.ensures c.number.ensures c.reason_of-reason.ensures
+          e.value h c.view_of.ensures c.refusals.ensures;
+      becomes = e.becomes;
+    }

@@ -1,38 +1,37 @@
--- At each object the number so far is that of the live ones before it.
-use mathlib.Core.Path.{◌≡◌, ◌∙◌, ap, sym}
-use native.Mathlib.Omega.{arith}
-use borrow.Author.Rules.{rules}
+-- Each live object is one more.
+use Rattle.std.specs.Prelude.{◌≡◌}
+use Rattle.std.proofs.Common.{◌∙◌, ap, arith, rules, sym}
+use Rattle.labels.specs.Decisions.{at}
 use Rattle.rules.specs.Setup.{new_number}
 use Rattle.rules.proofs.Parents.{new_most}
-use Rattle.writer.specs.Writing.{lives_only}
+use Rattle.state.specs.declared.Object.{Object}
+use Rattle.state.specs.State.{object_in, objects_in}
 use Rattle.writer.proofs.NewNumbers.{number_begins, number_live, number_gone}
 use Rattle.writer.proofs.new_number.Goals as goal
-use Rattle.writer.proofs.new_number.Goals.{then-at-eq1, else-at-eq1}
+use Rattle.writer.proofs.new_number.Goals.{then-object-eq1, else-object-eq1}
 
 pub loop-k-init : goal.loop-k-init
-loop-k-init c = (search rules, number_begins c.args.lives.now)
+loop-k-init g c = number_begins _
 
 pub overflow_add-n : goal.overflow_add-n
-overflow_add-n c =
+overflow_add-n g c =
     let l = c.loop-k in
-    let h = new_most (lives_only c.args.lives.now) l.k in
-    omega (arith, l.invariant.1, c.loop-k-test.true, c.ranges)
+    let h = new_most (objects_in (g.S.FacilityStore.facility c.args.s.now)) l.k in
+    omega (arith, l.invariant, c.loop-k-test.true, c.ranges)
 
 pub loop-k-preserved : goal.loop-k-preserved
-loop-k-preserved c =
+unfolding object_in
+loop-k-preserved g c =
     let l = c.loop-k in
-    let a = c.args in
-    let e = c.at.ensures in (
-      search rules,
-      elim c.if-at-eq1.branch [
-        | then-at-eq1 w ↦ w.n-is ∙ number_live a.lives.now l.k l.n l.invariant.1 (sym e ∙ w.if-at-eq1.true)
-        | else-at-eq1 w ↦ w.n-is ∙ number_gone a.lives.now l.k l.n l.invariant.1 (λ z. w.if-at-eq1.false (e ∙ z))
-      ],
-    )
+    let x = objects_in (g.S.FacilityStore.facility c.args.s.now) in
+    let e : c.object.result.live ≡ at x.lives l.k = ap (λ (o : Object). o.live) c.object.ensures in
+    elim c.if-object-eq1.branch [
+      | then-object-eq1 w ↦ w.n-is ∙ number_live x l.k l.n l.invariant (sym e ∙ w.if-object-eq1.true)
+      | else-object-eq1 w ↦ w.n-is ∙ number_gone x l.k l.n l.invariant (λ z. w.if-object-eq1.false (e ∙ z))
+    ]
 
 pub returns : goal.returns
-returns c =
+returns g c =
     let l = c.loop-k in
-    let a = c.args in
-    let e : l.k ≡ a.t = omega (arith, l.invariant.0, c.loop-k-test.false) in
-    l.invariant.1 ∙ ap (new_number (lives_only a.lives.now)) e
+    let e : l.k ≡ c.args.t = search rules in
+    l.invariant ∙ ap (new_number (objects_in (g.S.FacilityStore.facility c.args.s.now))) e

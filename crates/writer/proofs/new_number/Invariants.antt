@@ -1,14 +1,8 @@
--- At each object the number so far is that of the live ones before it.
-use Prim.Native.Nat.{◌-◌, ◌≤◌}
-use mathlib.Core.Path.{◌≡◌}
+-- The live objects so far.
+use Rattle.std.specs.Prelude.{◌≡◌}
 use Rattle.rules.specs.Setup.{new_number}
-use Rattle.writer.specs.Writing.{lives_only}
+use Rattle.state.specs.State.{objects_in}
 use Rattle.writer.proofs.new_number.Given as goal
 
 abbrev pub invariant-loop-k : goal.invariant-loop-k
-invariant-loop-k l =
-    (l.k ≤ l.t) × (l.n ≡ new_number (lives_only l.lives) l.k)
-
-abbrev pub decreases-loop-k : goal.decreases-loop-k
-decreases-loop-k l =
-    l.t - l.k
+invariant-loop-k g l = l.n ≡ new_number (objects_in (g.S.FacilityStore.facility l.s)) l.k

@@ -1,7 +1,7 @@
--- The other fields stay.
-use mathlib.Core.Path.{ap}
+-- Only the parent is another.
+use Rattle.std.proofs.Common.{ap}
 use Rattle.rules.specs.Setup.{with_parent}
 use Rattle.writer.proofs.renumbered.Goals as goal
 
 pub returns : goal.returns
-returns c = ap (with_parent c.args.o) c.new_parent-parent.ensures
+returns g c = ap (with_parent c.args.o) c.new_parent-parent.ensures

@@ -1,5 +1,5 @@
--- The line and the facility are those of the call that C hands in.
+-- Of the call that C hands in.
 use Rattle.hvozdalka.proofs.texts.hv_put_words.Goals as goal
 
 pub returns : goal.returns
-returns c = let t = c.tell-facility.ensures in rw (← c.call_of.ensures) (record { stored = t.stored; facility_value = t.value })
+returns c = let t = c.tell-length.ensures in rw (← c.from.ensures) (record { stored = t.stored; facility_value = t.becomes })

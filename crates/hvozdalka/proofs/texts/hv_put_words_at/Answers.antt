@@ -1,5 +1,5 @@
--- The line and the facility are those of the call that C hands in.
+-- Of the call that C hands in.
 use Rattle.hvozdalka.proofs.texts.hv_put_words_at.Goals as goal
 
 pub returns : goal.returns
-returns c = rw (← c.call_of.ensures) c.tell_in.ensures
+returns c = rw (← c.from.ensures) (record { stored = c.tell.ensures.stored; becomes = c.tell.ensures.becomes })

@@ -1,7 +1,8 @@
--- The result is `cloned self p t`.
-use Rattle.state.specs.State.{put_process}
+-- The process is put, and then its marks are copied.
+use Rattle.std.proofs.Common.{rules}
+use Rattle.state.specs.State.{put_opens, put_process}
 use Rattle.state.proofs.Facility.cloned.Goals as goal
 
 pub returns : goal.returns
-unfolding put_process
-returns c = rw (c.with_copied_row.ensures, c.with_process.ensures, c.process-r.ensures)
+unfolding put_opens put_process
+returns c = search rules

@@ -1,7 +1,8 @@
--- The result is `terminated self p`.
-use Rattle.state.specs.State.{put_process}
+-- The process is put, and then its marks go.
+use Rattle.std.proofs.Common.{rules}
+use Rattle.state.specs.State.{put_opens, put_process}
 use Rattle.state.proofs.Facility.terminated.Goals as goal
 
 pub returns : goal.returns
-unfolding put_process
-returns c = rw (c.with_closed_row.ensures, c.with_process.ensures, c.none.ensures)
+unfolding put_opens put_process
+returns c = search rules

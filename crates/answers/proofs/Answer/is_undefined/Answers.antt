@@ -1,5 +1,0 @@
--- The test is of the answer's code.
-use Rattle.answers.proofs.Answer.is_undefined.Goals as goal
-
-pub returns : goal.returns
-returns c = rw c.code.ensures

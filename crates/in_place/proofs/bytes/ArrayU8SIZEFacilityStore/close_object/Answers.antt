@@ -1,0 +1,12 @@
+-- The opens are lent, and come back as the call leaves them.
+use native.Mathlib.Omega.{arith}
+use Rattle.in_place.proofs.Fields.{opens_lent}
+use Rattle.opens.specs.Laws.Loops.{length_object_closed}
+use Rattle.opens.specs.Opens.{close_object}
+use Rattle.in_place.proofs.bytes.ArrayU8SIZEFacilityStore.close_object.Goals as goal
+
+pub returns : goal.returns
+returns c =
+    let a = c.args in
+    let e = c.start.ensures in
+    opens_lent (λ o. close_object o a.t) a.self.now _ _ _ (λ o. length_object_closed o a.t) e (omega (arith, e)) c.told-self c.close_object.ensures

@@ -1,0 +1,17 @@
+-- The result is `process_of f p`.
+use Rattle.in_place.specs.Layout.{facility_at}
+use Rattle.state.specs.State.{process_in}
+use Rattle.in_place.proofs.bytes.ArrayU8SIZEFacilityStore.process.Goals as goal
+
+pub returns : goal.returns
+unfolding facility_at process_in
+returns c =
+    λ j. record {
+      running = c.byte.ensures j;
+      owner = c.byte-2.ensures j;
+      current = c.label_in.ensures j;
+      readmark = c.label_in-2.ensures j;
+      writemark = c.label_in-3.ensures j;
+      automatic = c.byte-3.ensures j;
+      moves = c.byte-4.ensures j;
+    }

@@ -1,7 +1,0 @@
--- The byte of the field.
-use Rattle.in_place.specs.Layout.{facility_at}
-use Rattle.in_place.proofs.readers.entered_in.Goals as goal
-
-pub returns : goal.returns
-unfolding facility_at
-returns c = c.byte_in.ensures

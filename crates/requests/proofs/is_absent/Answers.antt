@@ -1,5 +1,0 @@
--- The test is of the class's code.
-use Rattle.requests.proofs.is_absent.Goals as goal
-
-pub returns : goal.returns
-returns c = rw c.class_code.ensures

@@ -1,5 +1,0 @@
--- The test is of the action's code.
-use Rattle.requests.proofs.is_set_level.Goals as goal
-
-pub returns : goal.returns
-returns c = rw c.action_code.ensures

@@ -1,6 +1,0 @@
--- The reads end.
-use Prim.Native.Nat.{◌-◌}
-use Rattle.run_words.proofs.run.Given as goal
-
-abbrev pub decreases-loop-k : goal.decreases-loop-k
-decreases-loop-k g l = 9007199254740992 - l.k

@@ -1,2 +1,0 @@
--- Laws that only this crate's proofs cite.
-pub mod AsRead
