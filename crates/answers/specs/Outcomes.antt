@@ -2,14 +2,18 @@
 pub use Rattle.answers.specs.declared.Answers.{Answers}
 pub use Rattle.answers.specs.declared.Outcome.{Outcome}
 pub use Rattle.answers.specs.declared.CallOutcome.{CallOutcome}
+pub use Rattle.answers.specs.declared.Refusal.{Refusal}
 pub use Rattle.answers.specs.declared.SetupRefusal.{SetupRefusal}
 pub use Rattle.answers.specs.declared.NoRoom.{NoRoom}
 use Rattle.std.specs.declared.result.Result.{Result}
 use Rattle.std.specs.declared.result.Result.TheVariants.{Ok, Err}
-use Rattle.std.specs.Prelude.{ℕ, Bool, cond, eqb}
+use Rattle.std.specs.Prelude.{ℕ, Bool, true, false, cond, eqb}
 use Rattle.labels.specs.Decisions.{◌or◌}
 use Rattle.answers.specs.Answers.{NotCared, Answer, code, combine_all}
 use Rattle.answers.specs.declared.Outcome.TheVariants.{Accepted, Denied, Refused}
+use Rattle.answers.specs.declared.Refusal.TheVariants.{NoSuchRequest, NoSuchProcess, NotRunning, NotFree, NoSuchUser, NotLive, KindLacksRequest}
+use Rattle.answers.specs.declared.Refusal.TheVariants.{NoSuchKind, NotOpen, AllObjectsEntered, NoSuchLevel, NotGranted, Undefined, Length, Place}
+use Rattle.answers.specs.declared.Refusal.TheVariants.{TooMany, Byte, Parent}
 
 -- the numbers by which the modules' combined answer refuses a call
 unfoldable pub denies : ℕ → Bool
@@ -58,6 +62,37 @@ outcome_numbers o =
       object = object_number_of o;
       ff = code (answers_of o).ff;
     }
+
+-- the paper's number of a refusal
+abbrev pub refusal_number : Refusal → ℕ
+refusal_number NoSuchRequest = 1
+refusal_number NoSuchProcess = 2
+refusal_number NotRunning = 3
+refusal_number NotFree = 4
+refusal_number NoSuchUser = 5
+refusal_number NotLive = 6
+refusal_number KindLacksRequest = 7
+refusal_number NoSuchKind = 8
+refusal_number NotOpen = 9
+refusal_number AllObjectsEntered = 10
+refusal_number NoSuchLevel = 11
+refusal_number NotGranted = 12
+refusal_number Undefined = 13
+refusal_number Length = 14
+refusal_number Place = 15
+refusal_number TooMany = 16
+refusal_number Byte = 17
+refusal_number Parent = 19
+
+-- one of the ordered questions: yes goes on to the later ones, no refuses
+unfoldable pub question : Bool → Refusal → Result Unit Refusal
+question true r = Ok tt
+question false r = Err r
+
+-- the number of questions that come to x, with `later` for the ones after them
+abbrev pub asked_or : Result Unit Refusal → ℕ → ℕ
+asked_or (Ok u) later = later
+asked_or (Err r) later = refusal_number r
 
 -- what reading a set-up comes to: it is accepted, or refused with a number and the index of a record
 abbrev pub SetupOutcome : Type 0

@@ -4,13 +4,15 @@
 ghost use Rattle.std.specs.Prelude.{◌≡◌};
 ghost use Rattle.answers.specs.Answers.{code, combine, is_not_granted, is_undefined, grant};
 ghost use Rattle.answers.specs.Outcomes.{answers_from, outcome_of, number_of, answers_of, object_number_of, outcome_numbers, denies};
+ghost use Rattle.answers.specs.Outcomes.{question, refusal_number};
 
 // The object number that a call has which gives none.
 pub const NO_OBJECT: u8 = 255;
 
 // What a module answers to a call, in the order of the paper's numbers.
-#[derive(Clone, Copy, PartialEq, Eq, PartialOrd, Ord)]
+#[derive(Clone, Copy, Default, PartialEq, Eq, PartialOrd, Ord)]
 pub enum Answer {
+    #[default]
     NotCared,
     Granted,
     NotGranted,
@@ -18,7 +20,7 @@ pub enum Answer {
 }
 
 // The answers that a call returns: one of each module, and their combination.
-#[derive(Clone, Copy, PartialEq, Eq)]
+#[derive(Clone, Copy, Default, PartialEq, Eq)]
 pub struct Answers {
     pub mac: Answer,
     pub fc: Answer,
@@ -36,6 +38,29 @@ pub enum Outcome {
     Denied { answers: Answers, number: u8 },
     // Number 1 to 11: the modules are not asked.
     Refused { number: u8 },
+}
+
+// Why a call or a set-up is refused, in the order of the paper's numbers. Number 18 is `NoRoom`.
+#[derive(Clone, Copy, PartialEq, Eq)]
+pub enum Refusal {
+    NoSuchRequest = 1,
+    NoSuchProcess = 2,
+    NotRunning = 3,
+    NotFree = 4,
+    NoSuchUser = 5,
+    NotLive = 6,
+    KindLacksRequest = 7,
+    NoSuchKind = 8,
+    NotOpen = 9,
+    AllObjectsEntered = 10,
+    NoSuchLevel = 11,
+    NotGranted = 12,
+    Undefined = 13,
+    Length = 14,
+    Place = 15,
+    TooMany = 16,
+    Byte = 17,
+    Parent = 19,
 }
 
 // Why a set-up is refused: number 14 to 17 or 19, and the index of the record that is refused.
@@ -145,13 +170,7 @@ impl Outcome {
         match self {
             Outcome::Accepted { answers, object: _ } => answers,
             Outcome::Denied { answers, number: _ } => answers,
-            Outcome::Refused { number: _ } => Answers {
-                mac: Answer::NotCared,
-                fc: Answer::NotCared,
-                sim: Answer::NotCared,
-                ff: Answer::NotCared,
-                combined: Answer::NotCared,
-            },
+            Outcome::Refused { number: _ } => Answers::default(),
         }
     }
 
@@ -174,6 +193,23 @@ pub fn is_denial(number: u8) -> bool
     ensures { result ≡ denies number }
 {
     (number == 12) | (number == 13)
+}
+
+impl Refusal {
+    // The paper's number of a refusal.
+    pub fn number(self) -> u8
+        ensures { result ≡ refusal_number self }
+    {
+        self as u8
+    }
+}
+
+// One of the ordered questions: yes goes on to the later ones, no refuses.
+#[tactic(auto, unfolding(crate::specs::Outcomes::question))]
+pub fn ask(yes: bool, refusal: Refusal) -> Result<(), Refusal>
+    ensures { result ≡ question yes refusal }
+{
+    if yes { Ok(()) } else { Err(refusal) }
 }
 
 // A call's refusal number, the answers of the modules and their combination, and the object number that an accepted create gave (else 255).

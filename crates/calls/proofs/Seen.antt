@@ -2,15 +2,15 @@
 use Prim.Native.Nat.{ℕ, suc}
 use mathlib.Core.Bool.{Bool, true, false, cond, not}
 use mathlib.Core.Path.{◌≡◌, refl, ◌∙◌, ap, sym}
-use mathlib.Core.Logic.{◌≢◌}
 use lib.Dec.{eqb}
 use native.Mathlib.Omega.{arith}
-use borrow.Author.Tests.{ne_eqb, eqb-true}
+use borrow.Author.Tests.{eqb-true}
 use Rattle.labels.specs.Decisions.{◌and◌, ◌or◌, on}
 use Rattle.answers.specs.declared.Answer.{Answer}
 use Rattle.answers.specs.declared.Outcome.{Outcome}
+use Rattle.answers.specs.declared.Outcome.TheVariants.{Accepted, Denied, Refused}
 use Rattle.answers.specs.declared.Answer.TheVariants.{NotCared}
-use Rattle.answers.specs.Outcomes.{answers_from, outcome_of, no_object, denies}
+use Rattle.answers.specs.Outcomes.{answers_from, outcome_of, no_object}
 use Rattle.rules.specs.declared.Action.{Action}
 use Rattle.rules.specs.declared.Action.TheVariants.{Login, Clone, SendSignal, SetLevel, Terminate, Create, OnObject, Unknown}
 use Rattle.rules.specs.declared.Class.{Class}
@@ -20,32 +20,20 @@ use Rattle.modules.specs.Parts.{answers_by, fc_answer_by, ff_answer_by, mac_alon
 use Rattle.modules.specs.Laws.Parts.{moved_by_law}
 use Rattle.requests.specs.declared.Request.{Request}
 use Rattle.rules.specs.Modules.{class_in, ff_rule, flags_seen, levelled, mac_object, moved, signalled, view_of}
-use Rattle.rules.specs.Questions.{open_for, room_for}
+use Rattle.rules.specs.Questions.{open_for, room_for, runs_of}
 use Rattle.rules.specs.Requests.{class_of, is_create, action_of, alters, write_request, execute_request, delete_request, search_request, directory_kind}
+use Rattle.rules.specs.Calls.{after, query}
 use Rattle.rules.specs.Effects.{change_of}
-use Rattle.questions.specs.Parts.{later_number, late_number, object_number, outcome_by}
-use Rattle.effects.specs.Changes.{change_by}
+use Rattle.questions.specs.Parts.{later_number, late_number, object_number, outcome_by, process_number}
+use Rattle.questions.specs.Laws.Calls.{query_later}
+use Rattle.effects.specs.Changes.{change_in}
+use Rattle.effects.specs.Laws.Changes.{enforced_change}
 use Rattle.state.specs.declared.Call.{Call}
-use Rattle.state.specs.declared.Change.TheVariants.{NoChange, CountRefusal}
+use Rattle.state.specs.declared.Change.TheVariants.{CountRefusal}
 use Rattle.state.specs.declared.Facility.{Facility}
 use Rattle.state.specs.declared.Process.{Process}
-use Rattle.state.specs.State.{object_of}
-use Rattle.calls.specs.Seen.{flags_asked, view_asked, view_by}
-
--- the flags that are asked for, from what was found
-asked_is : (f : Facility) (c : Call) (n kind : ℕ) (k : Class) → kind ≡ (object_of f c.target).kind → k ≡ class_in (view_of f c) c
-    → n ≡ forbidding all_flags c.request k kind
-    → n ≡ forbidding all_flags c.request (class_in (view_of f c) c) (object_of f c.target).kind
-asked_is f c n kind k q h e =
-    e ∙ ap (λ (x : Class). forbidding all_flags c.request x kind) h ∙ ap (λ (x : ℕ). forbidding all_flags c.request (class_in (view_of f c) c) x) q
-
-pub asked_none : (f : Facility) (c : Call) (n kind : ℕ) (k : Class) → kind ≡ (object_of f c.target).kind → k ≡ class_in (view_of f c) c
-    → n ≡ forbidding all_flags c.request k kind → n ≡ 0 → 0 ≡ flags_asked f c
-asked_none f c n kind k q h e z = rw (sym (asked_is f c n kind k q h e) ∙ z)
-
-pub asked_all : (f : Facility) (c : Call) (n kind m : ℕ) (k : Class) → kind ≡ (object_of f c.target).kind → k ≡ class_in (view_of f c) c
-    → n ≡ forbidding all_flags c.request k kind → n ≢ 0 → m ≡ flags_seen f c.target → m ≡ flags_asked f c
-asked_all f c n kind m k q h e z s = rw (ne_eqb _ 0 (λ x. z (asked_is f c n kind k q h e ∙ x)), s)
+use Rattle.state.specs.State.{changed, object_of}
+use Rattle.calls.specs.Seen.{view_asked, view_by}
 
 -- what all flags together do not forbid, none does
 not_first : (b : Bool) (n x : ℕ) → cond b (suc n) x ≡ 0 → (b ≡ false) × (x ≡ 0)
@@ -131,24 +119,25 @@ outcome_same : (f : Facility) (c : Call)
 unfolding comes_to outcome_by object_number late_number answers_by mac_answer_by mac_rule_by fc_answer_by sim_answer_by open_for room_for
 outcome_same f c = λ i. comes_to (request_in (view_of f c) c) (view_of f c) c (mac_same (action_of c.request) f c i) (ff_same f c i)
 
-pub asked_outcome : (f : Facility) (c : Call) (q : Request) (w : View) (o : Outcome) → q ≡ request_in (view_of f c) c → w ≡ view_asked f c
+asked_outcome : (f : Facility) (c : Call) (q : Request) (w : View) (o : Outcome) → q ≡ request_in (view_of f c) c → w ≡ view_asked f c
     → o ≡ outcome_by (later_number q w c) q w c
     → o ≡ outcome_by (later_number (request_in (view_of f c) c) (view_of f c) c) (request_in (view_of f c) c) (view_of f c) c
 asked_outcome f c q w o hq hw h =
     h ∙ (λ i. outcome_by (later_number (hq i) (hw i) c) (hq i) (hw i) c) ∙ outcome_same f c
 
-pub asked_change : (f : Facility) (c : Call) (n : ℕ) (w : View) → w ≡ view_asked f c → change_by n w c ≡ change_by n (view_of f c) c
-unfolding change_by
-asked_change f c n w hw =
-    ap (λ (x : View). change_by n x c) hw
-    ∙ (λ i. cond (eqb n 0) (change_same (action_of c.request) f c i) (cond (denies n) (CountRefusal (view_of f c).caller.owner) NoChange))
+-- what a call comes to that no question before the sixth refuses
+pub asked_query : (f : Facility) (c : Call) (q : Request) (w : View) (o : Outcome) → 0 ≡ process_number (action_of c.request) (runs_of (view_of f c)) c 0
+    → q ≡ request_in (view_of f c) c → w ≡ view_asked f c → o ≡ outcome_by (later_number q w c) q w c → o ≡ query f c
+asked_query f c q w o p hq hw h = query_later f c _ _ _ refl p refl (asked_outcome f c q w o hq hw h)
 
--- the class that is known of the request is that of the call
-pub asked_class : (f : Facility) (c : Call) (q : Request) → q ≡ request_in (view_of f c) c → q.class ≡ class_in (view_of f c) c
-asked_class f c q hq = ap (λ (x : Request). x.class) hq
+asked_change : (f : Facility) (c : Call) (w : View) (o : Outcome) → w ≡ view_asked f c → change_in o w c ≡ change_in o (view_of f c) c
+asked_change f c w (Accepted a o) hw = ap (λ (x : View). change_of (action_of c.request) x c) hw ∙ change_same (action_of c.request) f c
+asked_change f c w (Denied a n) hw = ap (λ (x : View). CountRefusal x.caller.owner) hw
+asked_change f c w (Refused n) hw = refl
 
-pub asked_class_in : (f : Facility) (c : Call) (q : Request) (w : View) → q ≡ request_in (view_of f c) c → w ≡ view_asked f c → q.class ≡ class_in w c
-asked_class_in f c q w hq hw = asked_class f c q hq ∙ sym (ap (λ (x : View). class_in x c) hw)
+-- so what is changed makes the facility after the call
+pub asked_after : (f : Facility) (c : Call) (w : View) (o : Outcome) → w ≡ view_asked f c → o ≡ query f c → changed f (change_in o w c) ≡ after f c
+asked_after f c w o hw h = ap (changed f) (asked_change f c w o hw) ∙ enforced_change f c (view_of f c) o h refl
 
 -- the caller is moved by it
 pub known_moved : (v : View) (c : Call) (k : Class) (r : Process) → k ≡ class_in v c → r ≡ moved_by k v → r ≡ moved v c

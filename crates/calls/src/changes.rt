@@ -1,6 +1,5 @@
 // What a call changes. It is made as it is found: a value of the change would be put together in memory and taken apart again.
 ghost use Rattle.std.specs.Prelude.{◌≡◌};
-ghost use Rattle.effects.specs.Changes.{change_by};
 ghost use Rattle.rules.specs.Effects.{change_of};
 ghost use Rattle.rules.specs.Modules.{class_in};
 ghost use Rattle.rules.specs.Requests.{action_of};
@@ -28,7 +27,7 @@ fn create_object<S: FacilityStore>(s: &mut S, p: u8, r: Process, o: Object)
 }
 
 // What an accepted call of this class changes: a create of a file or a directory moves the caller too.
-fn make_accepted<S: FacilityStore>(s: &mut S, class: Class, v: View, c: Call)
+pub(crate) fn make_accepted<S: FacilityStore>(s: &mut S, class: Class, v: View, c: Call)
     requires { class ≡ class_in v c }
     ensures { S.becomes s.old s.new (changed (S.facility s.old) (change_of (action_of c.request) v c)) }
 {
@@ -48,17 +47,5 @@ fn make_accepted<S: FacilityStore>(s: &mut S, class: Class, v: View, c: Call)
             let r = modules::moved(class, v);
             use_object(s, c.process, r, c.target, requests::open_change(c.request));
         }
-    }
-}
-
-// What a call of this class with this number changes: accepted, denied, or refused for another reason.
-pub(crate) fn make<S: FacilityStore>(s: &mut S, number: u8, class: Class, v: View, c: Call)
-    requires { class ≡ class_in v c }
-    ensures { S.becomes s.old s.new (changed (S.facility s.old) (change_by number v c)) }
-{
-    if number == 0 {
-        make_accepted(s, class, v, c);
-    } else if answers::is_denial(number) {
-        s.count_refusal(v.caller.owner);
     }
 }

@@ -54,11 +54,7 @@ fn target_of<S: FacilityStore>(s: &S, p: u8, t: u8) -> Target
 fn no_user() -> User
     ensures { result ≡ no_user }
 {
-    User {
-        clearance: Label { level: 0, set: 0 },
-        role: 0,
-        trusted: 0,
-    }
+    User::default()
 }
 
 // The target of a call: as a process, with its owner, for a signal alone. It has one caller, so that it is not put together in memory first.

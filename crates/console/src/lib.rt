@@ -15,8 +15,12 @@ use std::io::{Eprint, Error, ErrorKind, Print, Read};
 use std::rt::Files;
 use std::{array, fs, thread};
 
-// More than a program can try: a proved loop has to end.
+// More tries, reads and calls than there can be: a proved loop has to end.
 const TRIES: u64 = 1 << 53;
+
+pub const READS: u64 = 1 << 53;
+
+pub const CALLS: u64 = 1 << 62;
 
 // Room for what is told of an error; the longest that a system says of one is far below.
 const TOLD: usize = 256;
@@ -38,7 +42,7 @@ pub struct SetupRead {
 }
 
 // The bytes of a call that is not whole yet: how many of the three count.
-#[derive(Clone, Copy)]
+#[derive(Clone, Copy, Default)]
 pub struct Kept {
     pub count: usize,
     pub bytes: [u8; 3],
@@ -48,10 +52,7 @@ pub struct Kept {
 pub fn nothing_kept() -> Kept
     ensures { result ≡ nothing_kept }
 {
-    Kept {
-        count: 0,
-        bytes: [0; 3],
-    }
+    Kept::default()
 }
 
 // What there is of the calls: how many bytes of the buffer are to be lined now, those that are kept for the next read, whether there may be more, and

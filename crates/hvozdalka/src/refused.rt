@@ -2,7 +2,7 @@
 ghost use Rattle.std.specs.Prelude.{◌≡◌};
 ghost use Rattle.hvozdalka.specs.Numbers.{call_of};
 ghost use Rattle.in_place.specs.Layout.{facility_at};
-ghost use Rattle.text.specs.Stored.{Stored};
+ghost use Rattle.text.specs.Stored.{Put, Stored};
 ghost use Rattle.names.specs.Reasons.{why_text};
 ghost use Rattle.reasons.specs.Reasons.{failed_of};
 
@@ -10,14 +10,15 @@ use crate::SeatedCall;
 use in_place::FacilityStore;
 use reasons::Failed;
 use state::{Call, Facility};
+use text::Out;
 
 // The conditions that failed, in words.
-fn put_why<S: FacilityStore>(s: &S, c: Call, out: &mut [u8]) -> usize
-    ensures { Stored out.old 0 (why_text (S.facility s.now) c) out.new result }
+fn put_why<S: FacilityStore>(s: &S, c: Call, out: &mut Out)
+    ensures { Put out.old (why_text (S.facility s.now) c) out.new }
 {
     let w = reasons::failed_of(s, c);
     let source = flags::source(s, c.target, w.flag);
-    names::put_failed(out, 0, w, source)
+    names::put_failed(out, w, source);
 }
 
 // Which conditions failed where a call is refused with 12 or 13; none with any other number.
@@ -33,7 +34,9 @@ pub extern "C" fn hv_why_at(f: &[u8; in_place::SIZE], c: SeatedCall) -> Failed
 pub extern "C" fn hv_why_words_at(f: &[u8; in_place::SIZE], c: SeatedCall, out: &mut [u8]) -> usize
     ensures { Stored out.old 0 (why_text (facility_at f.now) (call_of c)) out.new result }
 {
-    put_why(f, Call::from(c), out)
+    let mut words = Out::new(out);
+    put_why(f, Call::from(c), &mut words);
+    words.place()
 }
 
 #[unsafe(no_mangle)]
@@ -47,5 +50,7 @@ pub extern "C" fn hv_why(f: Facility, c: SeatedCall) -> Failed
 pub extern "C" fn hv_why_words(f: Facility, c: SeatedCall, out: &mut [u8]) -> usize
     ensures { Stored out.old 0 (why_text f (call_of c)) out.new result }
 {
-    put_why(&f, Call::from(c), out)
+    let mut words = Out::new(out);
+    put_why(&f, Call::from(c), &mut words);
+    words.place()
 }

@@ -13,6 +13,7 @@ ghost use Rattle.words.specs.Short.{short_sentence};
 use crate::{Printed, SeatedCall};
 use labels::Label;
 use state::{Call, Facility};
+use text::Out;
 
 // The lines of the run program for a block of calls, on a facility where it is: its bytes become those of the facility after the block, and the padding
 // stays. How many bytes the lines have.
@@ -52,7 +53,9 @@ pub extern "C" fn hv_put_words_at(
     ensures stored { Stored out.old 0 (sentence index (facility_at f.old) (call_of c)) out.new result }
     ensures becomes { Becomes f.old f.new (after (facility_at f.old) (call_of c)) }
 {
-    words::tell(f, index, Call::from(c), out, 0)
+    let mut line = Out::new(out);
+    words::tell(f, index, Call::from(c), &mut line);
+    line.place()
 }
 
 #[unsafe(no_mangle)]
@@ -65,7 +68,9 @@ pub extern "C" fn hv_put_short_words_at(
     ensures stored { Stored out.old 0 (short_sentence index (facility_at f.old) (call_of c)) out.new result }
     ensures becomes { Becomes f.old f.new (after (facility_at f.old) (call_of c)) }
 {
-    words::tell_short(f, index, Call::from(c), out, 0)
+    let mut line = Out::new(out);
+    words::tell_short(f, index, Call::from(c), &mut line);
+    line.place()
 }
 
 // The same of a facility by value: the facility after the call, and how many bytes the line has.
@@ -80,8 +85,12 @@ pub extern "C" fn hv_put_words(
     ensures facility_value { result.facility ≡ after f (call_of c) }
 {
     let mut facility = f;
-    let length = words::tell(&mut facility, index, Call::from(c), out, 0);
-    Printed { facility, length }
+    let mut line = Out::new(out);
+    words::tell(&mut facility, index, Call::from(c), &mut line);
+    Printed {
+        facility,
+        length: line.place(),
+    }
 }
 
 #[unsafe(no_mangle)]
@@ -95,8 +104,12 @@ pub extern "C" fn hv_put_short_words(
     ensures facility_value { result.facility ≡ after f (call_of c) }
 {
     let mut facility = f;
-    let length = words::tell_short(&mut facility, index, Call::from(c), out, 0);
-    Printed { facility, length }
+    let mut line = Out::new(out);
+    words::tell_short(&mut facility, index, Call::from(c), &mut line);
+    Printed {
+        facility,
+        length: line.place(),
+    }
 }
 
 // A refused set-up in words.
@@ -113,56 +126,72 @@ pub extern "C" fn hv_put_setup_words(number: u8, index: u16, out: &mut [u8; word
 pub extern "C" fn hv_request_words(request: u8, out: &mut [u8]) -> usize
     ensures { Stored out.old 0 (request_word request) out.new result }
 {
-    names::put_request(out, 0, request)
+    let mut words = Out::new(out);
+    names::put_request(&mut words, request);
+    words.place()
 }
 
 #[unsafe(no_mangle)]
 pub extern "C" fn hv_kind_words(kind: u8, out: &mut [u8]) -> usize
     ensures { Stored out.old 0 (kind_word kind) out.new result }
 {
-    names::put_kind(out, 0, kind)
+    let mut words = Out::new(out);
+    names::put_kind(&mut words, kind);
+    words.place()
 }
 
 #[unsafe(no_mangle)]
 pub extern "C" fn hv_answer_words(answer: u8, out: &mut [u8]) -> usize
     ensures { Stored out.old 0 (answer_word answer) out.new result }
 {
-    names::put_answer(out, 0, answer)
+    let mut words = Out::new(out);
+    names::put_answer(&mut words, answer);
+    words.place()
 }
 
 #[unsafe(no_mangle)]
 pub extern "C" fn hv_flag_words(flag: u8, out: &mut [u8]) -> usize
     ensures { Stored out.old 0 (flag_word flag) out.new result }
 {
-    names::put_flag_word(out, 0, flag)
+    let mut words = Out::new(out);
+    names::put_flag_word(&mut words, flag);
+    words.place()
 }
 
 #[unsafe(no_mangle)]
 pub extern "C" fn hv_role_words(role: u8, out: &mut [u8]) -> usize
     ensures { Stored out.old 0 (role_word role) out.new result }
 {
-    names::put_role(out, 0, role)
+    let mut words = Out::new(out);
+    names::put_role(&mut words, role);
+    words.place()
 }
 
 #[unsafe(no_mangle)]
 pub extern "C" fn hv_category_words(category: u8, out: &mut [u8]) -> usize
     ensures { Stored out.old 0 (category_word category) out.new result }
 {
-    names::put_category(out, 0, category)
+    let mut words = Out::new(out);
+    names::put_category(&mut words, category);
+    words.place()
 }
 
 #[unsafe(no_mangle)]
 pub extern "C" fn hv_data_type_words(datatype: u8, out: &mut [u8]) -> usize
     ensures { Stored out.old 0 (data_type_word datatype) out.new result }
 {
-    names::put_data_type(out, 0, datatype)
+    let mut words = Out::new(out);
+    names::put_data_type(&mut words, datatype);
+    words.place()
 }
 
 #[unsafe(no_mangle)]
 pub extern "C" fn hv_number_words(number: u8, out: &mut [u8]) -> usize
     ensures { Stored out.old 0 (number_word number) out.new result }
 {
-    names::put_number(out, 0, number)
+    let mut words = Out::new(out);
+    names::put_number(&mut words, number);
+    words.place()
 }
 
 // A label in words: its level, or that it is unset, and the letters of its categories.
@@ -170,5 +199,7 @@ pub extern "C" fn hv_number_words(number: u8, out: &mut [u8]) -> usize
 pub extern "C" fn hv_label_words(label: Label, out: &mut [u8]) -> usize
     ensures { Stored out.old 0 (label_word label) out.new result }
 {
-    names::put_label(out, 0, label)
+    let mut words = Out::new(out);
+    names::put_label(&mut words, label);
+    words.place()
 }

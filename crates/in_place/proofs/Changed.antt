@@ -8,7 +8,7 @@ use native.Mathlib.Omega.{arith}
 use lib.Dec.{ltb}
 use borrow.Author.Tests.{lt-ltb, le-ltb, ltb-true, ltb-false}
 use Rattle.state.specs.declared.Process.{Process}
-use Rattle.state.specs.State.{put_process, put_opens, changed, no_process, terminated, process_of, cloned, drop_object, deleted, users_in, objects_from}
+use Rattle.state.specs.State.{put_process, put_opens, drop_object, users_in, objects_from}
 use Rattle.state.specs.State.{users_from, objects_in, processes_in, with, put_user, add_user, put_object, add_object, most_refusals, most_users, one_more}
 use Rattle.state.specs.State.{counted}
 use Rattle.in_place.specs.Layout.{field_of, facility_of, facility_at}
@@ -21,7 +21,7 @@ use Rattle.in_place.proofs.Stored.{stored}
 use Rattle.labels.proofs.Laws.Decisions.{by_test}
 use Rattle.in_place.proofs.Words.{words_length}
 use Rattle.state.specs.Laws.ReadBack.{counted_none}
-use Rattle.opens.specs.Opens.{most_objects, close_process, copy_process, close_object}
+use Rattle.opens.specs.Opens.{most_objects}
 use Rattle.labels.specs.Decisions.{at}
 use Rattle.state.specs.declared.Object.{Object}
 use Rattle.state.specs.declared.User.{User}
@@ -58,9 +58,6 @@ dropped_is m q t h =
     (ap (λ (g : ℕ → List ℕ). facility_of g) e, ap padding_in e)
 
 -- a user more, and an object more
-at_first : (l : List ℕ) (v : ℕ) → length l ≡ 1 → at (set l 0 v) 0 ≡ v
-at_first l v h = get_or-set_same l 0 v 0 (omega arith)
-
 user_with : (ℕ → List ℕ) → User → ℕ → ℕ → Facility
 user_with g u n users =
     with (facility_of g) users
@@ -77,7 +74,7 @@ user_added s m q u n l e b d h =
     let w : at (g the_users) 0 < most_users = omega arith in
     let t = stored m q (store_user g n u) the_users 0 (n + 1) d h in (
       ap (λ (x : ℕ → List ℕ). facility_of x) t
-          ∙ ap (user_with g u n) (at_first (g the_users) (n + 1) (field_length s the_users (omega arith)))
+          ∙ ap (user_with g u n) (get_or-set_same (g the_users) 0 (n + 1) 0 (omega (arith, field_length s the_users (omega arith))))
           ∙ ap (λ (k : ℕ). user_with g u k (k + 1)) e
           ∙ rw (lt-ltb (at (g the_users) 0) most_users w),
       ap padding_in t,
@@ -105,7 +102,7 @@ added_is s m q o n l e b d h =
     let g = field_of s in
     let w : at (g the_entered) 0 < most_objects = omega arith in
     ap (λ (x : ℕ → List ℕ). facility_of x) (stored m q (store_object g n o) the_entered 0 (n + 1) d h)
-    ∙ ap (object_with g o n) (at_first (g the_entered) (n + 1) (field_length s the_entered (omega arith)))
+    ∙ ap (object_with g o n) (get_or-set_same (g the_entered) 0 (n + 1) 0 (omega (arith, field_length s the_entered (omega arith))))
     ∙ ap (λ (k : ℕ). object_with g o k (k + 1)) e
     ∙ rw (lt-ltb (at (g the_entered) 0) most_objects w)
 

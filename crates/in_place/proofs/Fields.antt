@@ -4,8 +4,9 @@ use mathlib.Core.Bool.{cond}
 use mathlib.Core.List.{List, ◌∷◌, [], ◌++◌, append-nil}
 use mathlib.Core.Path.{◌≡◌, refl, ◌∙◌, ap, fun_ext, sym, ap₂}
 use lib.Dec.{eqb, ltb}
-use lib.Seq.{sets, sets-eq, take-add}
-use lib.ListN.{length, drop_of_length-le, take, take-append-drop, drop}
+use lib.Seq.{sets, sets-eq, take-add, ext_get_or, take-append_seam, drop-append_seam}
+use lib.ListN.{length, drop_of_length-le, take, drop}
+use Rattle.std.proofs.lemmas.List.{take_all}
 use native.Mathlib.Omega.{arith}
 use borrow.Author.Tests.{eq-eqb, ne_eqb, ltb-true, ltb-false}
 use Rattle.labels.proofs.Laws.Decisions.{by_eq, by_test}
@@ -64,16 +65,8 @@ field_stored s m l k b n h =
 and_field : (m n : List ℕ) (k : ℕ) → take (offset k) m ≡ take (offset k) n → field_of m k ≡ field_of n k → take (offset (suc k)) m ≡ take (offset (suc k)) n
 and_field m n k t h = take-add (offset k) (size k) m ∙ ap₂ (λ (x y : List ℕ). x ++ y) t h ∙ sym (take-add (offset k) (size k) n)
 
-all_taken : (m : List ℕ) (k : ℕ) → length m ≤ k → take k m ≡ m
-all_taken m k h =
-    sym (ap (λ (r : List ℕ). take k m ++ r) (drop_of_length-le m {i = k} h) ∙ append-nil (take k m)) ∙ take-append-drop k m
-
 one_byte : (l r : List ℕ) → length l ≡ 1 → length r ≡ 1 → at l 0 ≡ at r 0 → l ≡ r
-one_byte [] r h k e = absurd (omega arith)
-one_byte (x ∷ y ∷ l) r h k e = absurd (omega arith)
-one_byte (x ∷ []) [] h k e = absurd (omega arith)
-one_byte (x ∷ []) (y ∷ z ∷ r) h k e = absurd (omega arith)
-one_byte (x ∷ []) (y ∷ []) h k e = ap (λ (v : ℕ). v ∷ []) e
+one_byte l r h k e = ext_get_or 0 l r (h ∙ sym k) (λ i b. let z : i ≡ 0 = omega arith in rw z e)
 
 -- a byte of a field is a byte
 field_byte : (m : List ℕ) (k i : ℕ) → ((j : ℕ) → at m j < 256) → at (field_of m k) i < 256
@@ -92,14 +85,10 @@ field_of_one m n k a b h z e =
 
 -- lists of the same length, one behind the other
 halves : (a c b d : List ℕ) → length a ≡ length c → a ++ b ≡ c ++ d → (a ≡ c) × (b ≡ d)
-halves [] [] b d h e = (refl, e)
-halves [] (y ∷ c) b d h e = absurd (omega arith)
-halves (x ∷ a) [] b d h e = absurd (omega arith)
-halves (x ∷ a) (y ∷ c) b d h e =
-    let q : x ≡ y = cc in
-    let t : a ++ b ≡ c ++ d = cc in
-    let (p, r) = halves a c b d (omega arith) t in
-    ((λ i. q i ∷ p i), r)
+halves a c b d h e = (
+  sym (take-append_seam a b) ∙ (λ i. take (h i) (e i)) ∙ take-append_seam c d,
+  sym (drop-append_seam a b) ∙ (λ i. drop (h i) (e i)) ∙ drop-append_seam c d,
+)
 
 pub becomes_unique : BecomesUnique
 unfolding facility_at
@@ -150,8 +139,7 @@ becomes_unique s m n f a b p q =
     let t = and_field m n the_readsets t (ap (λ (x : Facility). x.readsets) e) in
     let t = and_field m n the_writesets t (ap (λ (x : Facility). x.writesets) e) in
     let t = and_field m n the_last_padding t last in
-    sym (all_taken m whole_size (omega arith)) ∙ t
-    ∙ all_taken n whole_size (omega arith)
+    sym (take_all whole_size m (omega arith)) ∙ t ∙ take_all whole_size n (omega arith)
 
 -- the opens are lent, and come back changed
 pub opens_lent : (g : List ℕ → List ℕ) (s l : List ℕ) (a k : ℕ) → ((o : List ℕ) → length (g o) ≡ length o) → a ≡ offset the_opens → k ≡ most_opens

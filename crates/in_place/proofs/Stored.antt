@@ -3,15 +3,14 @@ use Prim.Native.Nat.{ℕ, ◌+◌, ◌<◌, ◌≤◌, zero, suc, ◌-◌}
 use mathlib.Core.Path.{◌≡◌, sym, ◌∙◌, ap, fun_ext, refl}
 use mathlib.Core.List.{List, ◌++◌, append_assoc}
 use mathlib.Core.Logic.{◌≢◌}
-use lib.ListN.{set, length, length-set, take, drop, length-take, length-drop}
+use lib.ListN.{set, length, take, drop, length-take}
 use lib.Dec.{ltb}
-use lib.Seq.{set_out, get_or-set_same, get_or-set_other, ext_get_or, sets, sets-eq, drop-drop}
+use lib.Seq.{set_out, sets, sets-eq, drop-drop, drop-set-lt, drop-set-add, take-set-lt, take-set-le}
 use native.Mathlib.Omega.{arith}
 use borrow.Author.Tests.{lt-ltb, le-ltb, eq-eqb, ne_eqb, ltb-true, ltb-false}
 use Rattle.in_place.specs.Stores.{store_in, store_field, padding, padding_in}
 use Rattle.labels.proofs.Laws.Decisions.{by_test, by_eq}
 use Rattle.in_place.specs.Layout.{part, size, offset, field_of, the_opens, the_entered}
-use Rattle.in_place.proofs.BytesOfParts.{byte_in}
 
 pub store_inside : (s : List ℕ) (from n i v : ℕ) → i < n → set s (from + i) v ≡ store_in s from n i v
 unfolding store_in
@@ -22,39 +21,21 @@ unfolding store_in
 store_past s from n i v h = rw (le-ltb i n h)
 
 -- a part of the bytes after a store within it, and outside it
-length_part : (s : List ℕ) (q v from n : ℕ) → length (part (set s q v) from n) ≡ length (part s from n)
-length_part s q v from n =
-    let a = length-take n (drop from (set s q v)) in
-    let b = length-take n (drop from s) in
-    let c = length-drop from (set s q v) in
-    let d = length-drop from s in
-    let e = length-set s q v in
-    omega arith
-
 pub part_inside : (s : List ℕ) (from n i v : ℕ) → i < n → part (set s (from + i) v) from n ≡ set (part s from n) i v
-part_inside s from n i v h =
-    ext_get_or 0 (part (set s (from + i) v) from n) (set (part s from n) i v)
-    (length_part s (from + i) v from n ∙ sym (length-set (part s from n) i v))
-    (λ j b.
-    let l = length_part s (from + i) v from n in
-    let a = length-take n (drop from s) in
-    let d = length-drop from s in
-    let m : j < n = omega arith in
-    let k : from + j < length s = omega arith in
-    let p : j < length (part s from n) = omega arith in
-    sym (byte_in (set s (from + i) v) from n j m)
-    ∙ by_eq j i
-    (λ e. rw e (get_or-set_same s (from + i) v 0 (rw e at k) ∙ sym (get_or-set_same (part s from n) i v 0 (rw e at p))))
-    (λ e. get_or-set_other s (from + i) (from + j) v 0 (λ z. e (omega arith)) ∙ byte_in s from n j m ∙ sym (get_or-set_other (part s from n) i j v 0 e)))
+part_inside s from n i v h = ap (take n) (drop-set-add from s i v) ∙ take-set-lt n (drop from s) i v h
 
 pub part_outside : (s : List ℕ) (q v from n : ℕ) → ((j : ℕ) → j < n → from + j ≢ q) → part (set s q v) from n ≡ part s from n
 part_outside s q v from n h =
-    ext_get_or 0 (part (set s q v) from n) (part s from n) (length_part s q v from n)
-    (λ j b.
-    let l = length_part s q v from n in
-    let a = length-take n (drop from s) in
-    let m : j < n = omega arith in
-    sym (byte_in (set s q v) from n j m) ∙ get_or-set_other s q (from + j) v 0 (h j m) ∙ byte_in s from n j m)
+    by_test (ltb q from)
+    (λ t. ap (take n) (drop-set-lt from s q v (ltb-true q from t)))
+    (λ t.
+    let w = ltb-false q from t in
+    let e : q ≡ from + (q - from) = omega arith in
+    by_test (ltb (q - from) n)
+    (λ u. absurd (h (q - from) (ltb-true (q - from) n u) (sym e)))
+    (λ u.
+    ap (λ (k : ℕ). take n (drop from (set s k v))) e
+    ∙ ap (take n) (drop-set-add from s (q - from) v) ∙ take-set-le n (drop from s) (q - from) v (ltb-false (q - from) n u)))
 
 -- fields stand one behind the other
 apart : (j d : ℕ) → offset j + size j ≤ offset (suc j + d)

@@ -11,13 +11,6 @@ use crate::layout::*;
 use labels::Label;
 use state::{Object, Process, Switches, User};
 
-// The label of which the level is byte i of a field, and the set byte i of another.
-fn label_in(s: &[u8; SIZE], levels: Field, sets: Field, i: usize) -> Label
-    ensures { result ≡ label (at (part s.now (levels.end - levels.count) levels.count) i) (at (part s.now (sets.end - sets.count) sets.count) i) }
-{
-    Label::of(levels.byte(s, i), sets.byte(s, i))
-}
-
 // The attributes of user i, and of object i.
 fn put_user(s: &mut [u8; SIZE], i: usize, u: User)
     ensures { field_of s.new ≡ store_user (field_of s.old) i u }
@@ -72,7 +65,7 @@ impl FacilityStore for [u8; SIZE] {
     fn user(&self, u: u8) -> User {
         let i = u as usize;
         User {
-            clearance: label_in(self, CLEARANCES, CLEARANCE_SETS, i),
+            clearance: Label::at(CLEARANCES.of(self), CLEARANCE_SETS.of(self), i),
             role: ROLES.byte(self, i),
             trusted: TRUSTS.byte(self, i),
         }
@@ -83,9 +76,9 @@ impl FacilityStore for [u8; SIZE] {
         Process {
             running: RUNNINGS.byte(self, i),
             owner: OWNERS.byte(self, i),
-            current: label_in(self, CURRENTS, CURRENT_SETS, i),
-            readmark: label_in(self, READMARKS, READ_SETS, i),
-            writemark: label_in(self, WRITEMARKS, WRITE_SETS, i),
+            current: Label::at(CURRENTS.of(self), CURRENT_SETS.of(self), i),
+            readmark: Label::at(READMARKS.of(self), READ_SETS.of(self), i),
+            writemark: Label::at(WRITEMARKS.of(self), WRITE_SETS.of(self), i),
             automatic: AUTOMATICS.byte(self, i),
             moves: MOVES.byte(self, i),
         }
@@ -96,7 +89,7 @@ impl FacilityStore for [u8; SIZE] {
         Object {
             live: LIVES.byte(self, i),
             kind: KINDS.byte(self, i),
-            label: label_in(self, LEVELS, SETS, i),
+            label: Label::at(LEVELS.of(self), SETS.of(self), i),
             category: CATEGORIES.byte(self, i),
             datatype: DATATYPES.byte(self, i),
             flags: FLAGS.byte(self, i),

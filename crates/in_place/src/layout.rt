@@ -53,10 +53,6 @@ macro_rules! behind {
     };
 }
 
-const PROCESSES: usize = opens::PROCESSES as usize;
-
-const OBJECTS: usize = opens::OBJECTS as usize;
-
 pub(crate) const MAC: Field = Field { end: 1, count: 1 };
 
 pub(crate) const FC: Field = behind!(MAC, 1);
@@ -73,29 +69,29 @@ pub(crate) const TRUSTS: Field = behind!(ROLES, state::USERS);
 
 pub(crate) const ENTERED: Field = behind!(TRUSTS, 1);
 
-pub(crate) const LIVES: Field = behind!(ENTERED, OBJECTS);
+pub(crate) const LIVES: Field = behind!(ENTERED, state::OBJECTS);
 
-pub(crate) const KINDS: Field = behind!(LIVES, OBJECTS);
+pub(crate) const KINDS: Field = behind!(LIVES, state::OBJECTS);
 
-pub(crate) const LEVELS: Field = behind!(KINDS, OBJECTS);
+pub(crate) const LEVELS: Field = behind!(KINDS, state::OBJECTS);
 
-pub(crate) const CATEGORIES: Field = behind!(LEVELS, OBJECTS);
+pub(crate) const CATEGORIES: Field = behind!(LEVELS, state::OBJECTS);
 
-pub(crate) const DATATYPES: Field = behind!(CATEGORIES, OBJECTS);
+pub(crate) const DATATYPES: Field = behind!(CATEGORIES, state::OBJECTS);
 
-pub(crate) const RUNNINGS: Field = behind!(DATATYPES, PROCESSES);
+pub(crate) const RUNNINGS: Field = behind!(DATATYPES, state::PROCESSES);
 
-pub(crate) const OWNERS: Field = behind!(RUNNINGS, PROCESSES);
+pub(crate) const OWNERS: Field = behind!(RUNNINGS, state::PROCESSES);
 
-pub(crate) const CURRENTS: Field = behind!(OWNERS, PROCESSES);
+pub(crate) const CURRENTS: Field = behind!(OWNERS, state::PROCESSES);
 
-pub(crate) const READMARKS: Field = behind!(CURRENTS, PROCESSES);
+pub(crate) const READMARKS: Field = behind!(CURRENTS, state::PROCESSES);
 
-pub(crate) const WRITEMARKS: Field = behind!(READMARKS, PROCESSES);
+pub(crate) const WRITEMARKS: Field = behind!(READMARKS, state::PROCESSES);
 
-pub(crate) const AUTOMATICS: Field = behind!(WRITEMARKS, PROCESSES);
+pub(crate) const AUTOMATICS: Field = behind!(WRITEMARKS, state::PROCESSES);
 
-pub(crate) const OPENS: Field = behind!(AUTOMATICS, opens::PAIRS as usize);
+pub(crate) const OPENS: Field = behind!(AUTOMATICS, state::PAIRS);
 
 pub(crate) const PADDING: Field = behind!(OPENS, 3);
 
@@ -104,21 +100,21 @@ pub(crate) const REFUSALS: Field = behind!(PADDING, 4 * state::USERS);
 
 pub(crate) const FF: Field = behind!(REFUSALS, 1);
 
-pub(crate) const FLAGS: Field = behind!(FF, OBJECTS);
+pub(crate) const FLAGS: Field = behind!(FF, state::OBJECTS);
 
-pub(crate) const PARENTS: Field = behind!(FLAGS, OBJECTS);
+pub(crate) const PARENTS: Field = behind!(FLAGS, state::OBJECTS);
 
-pub(crate) const MOVES: Field = behind!(PARENTS, PROCESSES);
+pub(crate) const MOVES: Field = behind!(PARENTS, state::PROCESSES);
 
 pub(crate) const CLEARANCE_SETS: Field = behind!(MOVES, state::USERS);
 
-pub(crate) const SETS: Field = behind!(CLEARANCE_SETS, OBJECTS);
+pub(crate) const SETS: Field = behind!(CLEARANCE_SETS, state::OBJECTS);
 
-pub(crate) const CURRENT_SETS: Field = behind!(SETS, PROCESSES);
+pub(crate) const CURRENT_SETS: Field = behind!(SETS, state::PROCESSES);
 
-pub(crate) const READ_SETS: Field = behind!(CURRENT_SETS, PROCESSES);
+pub(crate) const READ_SETS: Field = behind!(CURRENT_SETS, state::PROCESSES);
 
-pub(crate) const WRITE_SETS: Field = behind!(READ_SETS, PROCESSES);
+pub(crate) const WRITE_SETS: Field = behind!(READ_SETS, state::PROCESSES);
 
 // Three more bytes of padding end the struct, whose size is a multiple of four.
 pub(crate) const LAST_PADDING: Field = behind!(WRITE_SETS, 3);

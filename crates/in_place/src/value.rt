@@ -37,10 +37,7 @@ impl FacilityStore for Facility {
     fn user(&self, u: u8) -> User {
         let i = u as usize;
         User {
-            clearance: Label::of(
-                labels::at(&self.clearances, i),
-                labels::at(&self.clearancesets, i),
-            ),
+            clearance: Label::at(&self.clearances, &self.clearancesets, i),
             role: labels::at(&self.roles, i),
             trusted: labels::at(&self.trusts, i),
         }
@@ -55,7 +52,7 @@ impl FacilityStore for Facility {
         Object {
             live: labels::at(&self.lives, i),
             kind: labels::at(&self.kinds, i),
-            label: Label::of(labels::at(&self.levels, i), labels::at(&self.sets, i)),
+            label: Label::at(&self.levels, &self.sets, i),
             category: labels::at(&self.categories, i),
             datatype: labels::at(&self.datatypes, i),
             flags: labels::at(&self.flags, i),

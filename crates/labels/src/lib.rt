@@ -2,7 +2,7 @@
 #![tactic(auto)]
 
 ghost use Rattle.std.specs.Prelude.{◌+◌, ◌≡◌, set};
-ghost use Rattle.labels.specs.Decisions.{ask, at};
+ghost use Rattle.labels.specs.Decisions.{at};
 ghost use Rattle.labels.specs.Labels.{label, leq, same, join, meet, given, rank};
 
 // The byte of a level or a category that is unset.
@@ -13,7 +13,7 @@ pub const ALL_CATEGORIES: u8 = 255;
 
 // What levels, marks and clearances are compared by. Only the operations on labels look inside.
 #[repr(C)]
-#[derive(Clone, Copy, PartialEq, Eq)]
+#[derive(Clone, Copy, Default, PartialEq, Eq)]
 pub struct Label {
     pub level: u8,
     // Eight categories, a bit each.
@@ -25,6 +25,13 @@ impl Label {
         ensures { result ≡ label level set }
     {
         Label { level, set }
+    }
+
+    // The label of byte i of an array of levels and of one of sets.
+    pub fn at(levels: &[u8], sets: &[u8], i: usize) -> Label
+        ensures { result ≡ label (at levels.now i) (at sets.now i) }
+    {
+        Label::of(at(levels, i), at(sets, i))
     }
 
     // The other label dominates this one.
@@ -91,11 +98,4 @@ pub fn put<T: Copy>(array: &mut [T], i: usize, v: T)
     if i < array.len() {
         array[i] = v;
     }
-}
-
-// One of the ordered questions: yes goes on to the later ones, no gives the refusal number.
-pub fn ask(yes: bool, number: u8, later: u8) -> u8
-    ensures { result ≡ ask yes number later }
-{
-    if yes { later } else { number }
 }

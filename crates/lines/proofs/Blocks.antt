@@ -1,10 +1,9 @@
 -- The lines of all blocks, one after the other, are the output of document 01.
-use Prim.Native.Nat.{ℕ, ◌+◌, ◌*◌, ◌/◌, ◌%◌, ◌≤◌, min, ◌<◌, suc}
+use Prim.Native.Nat.{ℕ, ◌+◌, ◌*◌, ◌/◌, ◌%◌, ◌≤◌, ◌<◌, suc}
 use mathlib.Core.Path.{◌≡◌, refl, ap, sym, ◌∙◌, subst, subst₂}
 use mathlib.Core.List.{List, ◌++◌, [], ◌∷◌, append_assoc, append-nil}
 use mathlib.Core.Bool.{cond}
 use lib.ListN.{length, drop, length-append}
-use lib.Seq.{sets, length-sets}
 use lib.Dec.{eqb}
 use native.Mathlib.Omega.{arith}
 use borrow.Author.Tests.{le-ltb, lt-ltb, eq-eqb, ne_eqb}
@@ -14,8 +13,9 @@ use Rattle.rules.specs.Calls.{after, query}
 use Rattle.rules.specs.Lines.{calls_of, call_lines, call_line, short_line}
 use Rattle.history.specs.CallBytes.{call_from}
 use Rattle.history.specs.Laws.CallBytes.{calls_joined, calls_more, no_calls, run_more, run_done}
-use Rattle.text.specs.Stored.{Stored}
-use Rattle.text.specs.Laws.Stored.{then, as_text}
+use Rattle.text.specs.declared.Out.{Out}
+use Rattle.text.specs.Stored.{Put}
+use Rattle.text.specs.Laws.Puts.{◌▹◌, put_as}
 use Rattle.state.specs.declared.Call.{Call}
 use Rattle.answers.specs.declared.Outcome.{Outcome}
 use Rattle.lines.specs.Texts.{line_text}
@@ -27,20 +27,14 @@ use Rattle.lines.specs.Blocks.{lines_of, facility_after, WholeByBlocks}
 use Rattle.rules.specs.Text.{ascii}
 use Rattle.labels.proofs.Laws.Decisions.{by_eq}
 
--- What is left when the calls before byte i are printed: their lines, stored at `place`, make the whole.
-pub record Left (o : List ℕ) (first : ℕ) (f₀ : Facility) (calls : List ℕ) (out : List ℕ) (place index : ℕ) (f : Facility) (i : ℕ) : Type 0 where
-  pub stored : sets out place (call_lines index f (calls_of (drop i calls))) ≡ sets o 0 (call_lines first f₀ (calls_of calls))
-  pub reached : min (place + length (call_lines index f (calls_of (drop i calls)))) (length o)
-      ≡ min (0 + length (call_lines first f₀ (calls_of calls))) (length o)
-  pub within : place ≤ length o
-  pub long : length out ≡ length o
+-- What is stored when the calls before byte i are printed: their lines, behind which those that are left make the whole.
+pub record Left (a : Out) (first : ℕ) (f₀ : Facility) (calls : List ℕ) (b : Out) (index : ℕ) (f : Facility) (i : ℕ) : Type 0 where
+  pub told : List ℕ
+  pub stored : Put a told b
+  pub rest : told ++ call_lines index f (calls_of (drop i calls)) ≡ call_lines first f₀ (calls_of calls)
   pub facility : run f (calls_of (drop i calls)) ≡ run f₀ (calls_of calls)
-  pub most : length (call_lines first f₀ (calls_of calls)) ≤ 49 * (i / 4) + length (call_lines index f (calls_of (drop i calls)))
+  pub most : length told ≤ 49 * (i / 4)
   pub whole : i % 4 ≡ 0
-
-pub left_begins : (o : List ℕ) (first : ℕ) (f : Facility) (calls : List ℕ) → Left o first f calls o 0 first f 0
-left_begins o first f calls =
-    record { stored = refl; reached = refl; within = omega arith; long = refl; facility = refl; most = omega arith; whole = refl }
 
 lines_more : (index : ℕ) (f : Facility) (l : List ℕ) (i : ℕ) → i + 4 ≤ length l
     → call_lines index f (calls_of (drop i l)) ≡ call_line index f (call_from l i)
@@ -52,108 +46,91 @@ lines_none : (index : ℕ) (f : Facility) (l : List ℕ) (i : ℕ) → length l 
 unfolding call_lines
 lines_none index f l i h = ap (call_lines index f) (no_calls l i h)
 
-pub left_more : (o : List ℕ) (first : ℕ) (f₀ : Facility) (calls out : List ℕ) (place index : ℕ) (f : Facility) (i : ℕ) (m : List ℕ) (q : ℕ)
-    → Left o first f₀ calls out place index f i → i + 4 ≤ length calls
-    → Stored out place (call_line index f (call_from calls i)) m q → length (call_line index f (call_from calls i)) ≤ 49
-    → Left o first f₀ calls m q (index + 1) (after f (call_from calls i)) (i + 4)
-left_more o first f₀ calls out place index f i m q l h s b =
+pub left_more : (a : Out) (first : ℕ) (f₀ : Facility) (calls : List ℕ) (b : Out) (index : ℕ) (f : Facility) (i : ℕ) (d : Out)
+    → Left a first f₀ calls b index f i → i + 4 ≤ length calls
+    → Put b (call_line index f (call_from calls i)) d → length (call_line index f (call_from calls i)) ≤ 49
+    → Left a first f₀ calls d (index + 1) (after f (call_from calls i)) (i + 4)
+left_more a first f₀ calls b index f i d l h s n =
     let c = call_from calls i in
     let line = call_line index f c in
     let rest = call_lines (index + 1) (after f c) (calls_of (drop (i + 4) calls)) in
-    let e = lines_more index f calls i h in
-    let n = l.long in
-    let t = then out m (sets m q rest) place q (min (q + length rest) (length m)) line rest s (refl, refl) in
-    let k : length m ≡ length out = ap length s.0 ∙ length-sets out place line in
-    let d = ap length e ∙ length-append line rest in
-    let w = l.whole in
+    let told = l.told in
+    let size = length-append told line in
     let z = l.most in
-    let y = s.1 in
+    let w = l.whole in
     record {
-      stored = t.0 ∙ sym (ap (sets out place) e) ∙ l.stored;
-      reached = (let u = t.1 in let v = l.reached in let x = length-append line rest in omega arith);
-      within = omega arith;
-      long = omega arith;
+      told = told ++ line;
+      stored = l.stored ▹ s;
+      rest = append_assoc told line rest ∙ ap (λ (x : List ℕ). told ++ x) (sym (lines_more index f calls i h)) ∙ l.rest;
       facility = sym (run_more f calls i h) ∙ l.facility;
       most = omega arith;
       whole = omega arith;
     }
 
 -- and from what the code has at hand: the call, what it came to, the facility after it, and its line
-pub left_goes_on : (o : List ℕ) (first : ℕ) (f₀ : Facility) (calls out : List ℕ) (place index : ℕ) (f : Facility) (i : ℕ) (m : List ℕ) (q : ℕ)
-    (c : Call) (a : Outcome) (g : Facility) (running level : ℕ)
-    → Left o first f₀ calls out place index f i → i + 4 ≤ length calls → c ≡ call_from calls i → a ≡ query f c → g ≡ after f c
+pub left_goes_on : (a : Out) (first : ℕ) (f₀ : Facility) (calls : List ℕ) (b : Out) (index : ℕ) (f : Facility) (i : ℕ) (d : Out)
+    (c : Call) (o : Outcome) (g : Facility) (running level : ℕ)
+    → Left a first f₀ calls b index f i → i + 4 ≤ length calls → c ≡ call_from calls i → o ≡ query f c → g ≡ after f c
     → running ≡ at g.runnings c.process → level ≡ at g.currents c.process
-    → Stored out place (line_text index c a running level) m q → length (line_text index c a running level) ≤ 49
-    → Left o first f₀ calls m q (index + 1) g (i + 4)
-left_goes_on o first f₀ calls out place index f i m q c a g running level l h k d e u v s b =
-    let t : line_text index c a running level ≡ call_line index f (call_from calls i) =
-    ap (λ (x : ℕ). line_text index c a x level) u ∙ ap (λ (x : ℕ). line_text index c a (at g.runnings c.process) x) v
-    ∙ ap (λ (x : Outcome). line_text index c x (at g.runnings c.process) (at g.currents c.process)) d
+    → Put b (line_text index c o running level) d → length (line_text index c o running level) ≤ 49
+    → Left a first f₀ calls d (index + 1) g (i + 4)
+left_goes_on a first f₀ calls b index f i d c o g running level l h k q e u v s n =
+    let t : line_text index c o running level ≡ call_line index f (call_from calls i) =
+    ap (λ (x : ℕ). line_text index c o x level) u ∙ ap (λ (x : ℕ). line_text index c o (at g.runnings c.process) x) v
+    ∙ ap (λ (x : Outcome). line_text index c x (at g.runnings c.process) (at g.currents c.process)) q
     ∙ ap (λ (x : Facility). line_text index c (query f c) (at x.runnings c.process) (at x.currents c.process)) e
     ∙ line_is index f c ∙ ap (call_line index f) k in
     let w : after f (call_from calls i) ≡ g = sym (e ∙ ap (after f) k) in
-    subst (λ (x : Facility). Left o first f₀ calls m q (index + 1) x (i + 4)) w
-    (left_more o first f₀ calls out place index f i m q l h (as_text out m _ _ place q t s) (subst (λ (x : List ℕ). length x ≤ 49) t b))
+    subst (λ (x : Facility). Left a first f₀ calls d (index + 1) x (i + 4)) w
+    (left_more a first f₀ calls b index f i d l h (put_as t s) (subst (λ (x : List ℕ). length x ≤ 49) t n))
 
 -- the same by the number k of the call
-pub left_next : (o : List ℕ) (first : ℕ) (f₀ : Facility) (calls out : List ℕ) (place : ℕ) (f : Facility) (k : ℕ) (m : List ℕ) (q : ℕ)
-    (c : Call) (a : Outcome) (g : Facility) (running level : ℕ)
-    → Left o first f₀ calls out place (first + k) f (4 * k) → k < length calls / 4 → c ≡ call_from calls (4 * k) → a ≡ query f c → g ≡ after f c
+pub left_next : (a : Out) (first : ℕ) (f₀ : Facility) (calls : List ℕ) (b : Out) (f : Facility) (k : ℕ) (d : Out)
+    (c : Call) (o : Outcome) (g : Facility) (running level : ℕ)
+    → Left a first f₀ calls b (first + k) f (4 * k) → k < length calls / 4 → c ≡ call_from calls (4 * k) → o ≡ query f c → g ≡ after f c
     → running ≡ at g.runnings c.process → level ≡ at g.currents c.process
-    → Stored out place (line_text (first + k) c a running level) m q → length (line_text (first + k) c a running level) ≤ 49
-    → Left o first f₀ calls m q (first + (k + 1)) g (4 * (k + 1))
-left_next o first f₀ calls out place f k m q c a g running level l h r d e u v s b =
+    → Put b (line_text (first + k) c o running level) d → length (line_text (first + k) c o running level) ≤ 49
+    → Left a first f₀ calls d (first + (k + 1)) g (4 * (k + 1))
+left_next a first f₀ calls b f k d c o g running level l h r q e u v s n =
     let t : 4 * k + 4 ≤ length calls = omega arith in
     let i : 4 * k + 4 ≡ 4 * (k + 1) = omega arith in
     let x : first + k + 1 ≡ first + (k + 1) = omega arith in
-    subst₂ (λ (n j : ℕ). Left o first f₀ calls m q n g j) x i
-    (left_goes_on o first f₀ calls out place (first + k) f (4 * k) m q c a g running level l t r d e u v s b)
+    subst₂ (λ (m j : ℕ). Left a first f₀ calls d m g j) x i
+    (left_goes_on a first f₀ calls b (first + k) f (4 * k) d c o g running level l t r q e u v s n)
 
 -- the bytes of a process that is read off a facility
 pub process_bytes_law : (r : Process) (f : Facility) (p : ℕ) → r ≡ process_of f p → (r.running ≡ at f.runnings p) × (r.current.level ≡ at f.currents p)
 unfolding process_in
 process_bytes_law r f p e = (ap (λ (x : Process). x.running) e, ap (λ (x : Process). x.current.level) e)
 
-pub left_done : (o : List ℕ) (first : ℕ) (f₀ : Facility) (calls out : List ℕ) (place index : ℕ) (f : Facility) (i : ℕ)
-    → Left o first f₀ calls out place index f i → i ≤ length calls → length calls < i + 4
-    → Stored o 0 (call_lines first f₀ (calls_of calls)) out place × (f ≡ run f₀ (calls_of calls))
-    × (length (call_lines first f₀ (calls_of calls)) ≤ 49 * (length calls / 4))
-left_done o first f₀ calls out place index f i l a h =
-    let e = lines_none index f calls i h in
-    let d = ap length e in
-    let r = l.reached in
-    let b = l.within in
-    let z = l.most in
-    let w = l.whole in (
-      (sym (ap (sets out place) e) ∙ l.stored, (let q : place ≡ min (0 + length (call_lines first f₀ (calls_of calls))) (length o) = omega arith in q)),
-      sym (run_done f calls i h) ∙ l.facility,
-      omega arith,
-    )
-
 -- What a function that prints a block answers and leaves.
-pub record Block (o : List ℕ) (first : ℕ) (f : Facility) (calls out : List ℕ) (n : ℕ) (g : Facility) : Type 0 where
-  pub stored : Stored o 0 (lines_of first f calls) out n
+pub record Block (a : Out) (first : ℕ) (f : Facility) (calls : List ℕ) (b : Out) (g : Facility) : Type 0 where
+  pub stored : Put a (lines_of first f calls) b
   pub facility : g ≡ facility_after first f calls
   pub most : length (lines_of first f calls) ≤ 49 * (length calls / 4)
 
-pub block_none : (o : List ℕ) (first : ℕ) (f : Facility) (calls : List ℕ) → 9223372036854775808 ≤ first → Block o first f calls o 0 f
+pub block_none : (a b : Out) (first : ℕ) (f : Facility) (calls : List ℕ) → Put a [] b → 9223372036854775808 ≤ first → Block a first f calls b f
 unfolding lines_of facility_after
-block_none o first f calls h =
+block_none a b first f calls p h =
     let t = le-ltb first 9223372036854775808 h in
-    record {
-      stored = rw (t, length) (refl, let q : 0 ≡ min (0 + 0) (length o) = omega arith in q);
-      facility = rw t;
-      most = rw (t, length) (omega arith);
-    }
+    record { stored = rw t p; facility = rw t; most = rw (t, length) (omega arith) }
 
-pub block_done : (o : List ℕ) (first : ℕ) (f : Facility) (calls out : List ℕ) (place index : ℕ) (g : Facility) (i : ℕ)
-    → first < 9223372036854775808 → Left o first f calls out place index g i → i ≤ length calls → length calls < i + 4
-    → Block o first f calls out place g
+pub block_done : (a : Out) (first : ℕ) (f : Facility) (calls : List ℕ) (b : Out) (index : ℕ) (g : Facility) (i : ℕ)
+    → first < 9223372036854775808 → Left a first f calls b index g i → i ≤ length calls → length calls < i + 4
+    → Block a first f calls b g
 unfolding lines_of facility_after
-block_done o first f calls out place index g i b l a h =
-    let t = lt-ltb first 9223372036854775808 b in
-    let d = left_done o first f calls out place index g i l a h in
-    record { stored = rw t d.0; facility = rw t d.1; most = rw t d.2 }
+block_done a first f calls b index g i n l k h =
+    let t = lt-ltb first 9223372036854775808 n in
+    let e : l.told ≡ call_lines first f (calls_of calls) =
+    sym (append-nil l.told) ∙ ap (λ (x : List ℕ). l.told ++ x) (sym (lines_none index g calls i h)) ∙ l.rest in
+    let size = ap length e in
+    let z = l.most in
+    let w = l.whole in
+    record {
+      stored = rw t (put_as e l.stored);
+      facility = rw t (sym (run_done g calls i h) ∙ l.facility);
+      most = rw t (omega arith);
+    }
 
 -- `short` is six bytes or none
 pub not_short : (calls : List ℕ) → length calls % 4 ≡ 0 → [] ≡ short_line calls

@@ -4,11 +4,10 @@ use mathlib.Core.Path.{◌≡◌, refl}
 use mathlib.Core.List.{◌++◌, [], ◌∷◌}
 use lib.ListN.{length, length-append}
 use native.Mathlib.Omega.{arith}
-use borrow.Author.Tests.{eq-eqb, ne_eqb}
 use Rattle.state.specs.declared.Call.{Call}
 use Rattle.state.specs.declared.Facility.{Facility}
 use Rattle.rules.specs.Calls.{query, after}
-use Rattle.rules.specs.Lines.{level_text, call_line, field, line_feed, decimal, hyphen}
+use Rattle.rules.specs.Lines.{level_text, call_line, field, line_feed}
 use Rattle.state.specs.State.{process_in}
 use Rattle.labels.specs.Decisions.{at, on}
 use Rattle.lines.specs.Texts.{line_text, call_text, outcome_text, level_part}
@@ -52,10 +51,3 @@ line_short i c o running level hi hr hp ht he hn ha hl =
     let b3 = length-append (outcome_text i c o) (level_part running level) in
     let b4 = length-append (outcome_text i c o ++ level_part running level) (line_feed ∷ []) in
     omega arith
-
--- the two cases of a level
-pub level_runs : (running level : ℕ) → running ≡ 1 → decimal level ≡ level_part running level
-level_runs running level h = rw (eq-eqb running 1 h)
-
-pub level_none : (running level : ℕ) → (running ≡ 1 → ⊥) → hyphen ∷ [] ≡ level_part running level
-level_none running level h = rw (ne_eqb running 1 h)

@@ -3,7 +3,8 @@
 
 ghost use Rattle.std.specs.Prelude.{min, ◌≡◌};
 ghost use Rattle.matter.specs.LedgerSteps.{assigned_nothing_of, carried_of, copied_of, created_of, entered_of, held_by, is_member, members_in, merged_of};
-ghost use Rattle.matter.specs.LedgerSteps.{no_members, put_members, object_gains_of, on_object_of, only_member, process_gains_of, received_of, with_object, with_process};
+ghost use Rattle.matter.specs.LedgerSteps.{no_members, put_members, object_gains_of, on_object_of, only_member, process_gains_of, received_of};
+ghost use Rattle.matter.specs.LedgerSteps.{with_object, with_process};
 ghost use Rattle.matter.specs.LedgerSteps.{selves, start_of, step_of};
 ghost use Rattle.opens.specs.Opens.{most_objects};
 ghost use Rattle.rules.specs.Matter.{gives, takes};
@@ -21,7 +22,7 @@ const OBJECT_WORDS: usize = 2 * OBJECTS;
 const PROCESS_WORDS: usize = 2 * state::PROCESSES;
 
 // A set of object numbers: number c is bit c of `low` below 64, and bit c - 64 of `high` from there to 127.
-#[derive(Clone, Copy)]
+#[derive(Clone, Copy, Default)]
 pub struct Members {
     pub low: u64,
     pub high: u64,
@@ -41,7 +42,7 @@ impl Members {
     fn none() -> Members
         ensures { result ≡ no_members }
     {
-        Members { low: 0, high: 0 }
+        Members::default()
     }
 
     // The set of one object number, the empty one of a number that is none.

@@ -1,15 +1,15 @@
 // The ordered questions: what a call comes to, by what it looks at.
 #![tactic(auto)]
 
-ghost use Rattle.std.specs.Prelude.{◌≡◌, cond, eqb};
+ghost use Rattle.std.specs.Prelude.{ℕ, ◌≡◌, cond};
 ghost use Rattle.questions.specs.Parts.{late_number, later_number, object_number, outcome_by, outcome_in, process_number};
 ghost use Rattle.modules.specs.Parts.{answers_by};
 ghost use Rattle.rules.specs.Questions.{in_range, is_free, is_running, runs_of, open_for, room_for};
 ghost use Rattle.rules.specs.Requests.{is_create, action_of};
-ghost use Rattle.labels.specs.Decisions.{◌and◌, ask, asked};
-ghost use Rattle.answers.specs.Outcomes.{no_object};
+ghost use Rattle.labels.specs.Decisions.{asked};
+ghost use Rattle.answers.specs.Outcomes.{asked_or, no_object};
 
-use answers::{Answer, Outcome};
+use answers::{Answer, Outcome, Refusal};
 use requests::Request;
 use rules::{Action, Runs, View};
 use state::{Call, Process};
@@ -74,54 +74,50 @@ fn room_for(k: Action, v: View, c: Call) -> bool
 }
 
 // Questions 10 to 13; `combined` is the modules' combined answer.
-fn late_number(k: Action, v: View, c: Call, combined: Answer) -> u8
-    ensures { result ≡ late_number k v c combined }
+fn ask_late(k: Action, v: View, c: Call, combined: Answer) -> Result<(), Refusal>
+    ensures { asked_or result 0 ≡ late_number k v c combined }
 {
     let level = only_if(requests::is_set_level(k), c.extra <= Process::TOP);
-    let n13 = labels::ask(!combined.is_undefined(), 13, 0);
-    let n12 = labels::ask(!combined.is_not_granted(), 12, n13);
-    let n11 = labels::ask(level, 11, n12);
-    labels::ask(room_for(k, v, c), 10, n11)
+    answers::ask(room_for(k, v, c), Refusal::AllObjectsEntered)?;
+    answers::ask(level, Refusal::NoSuchLevel)?;
+    answers::ask(!combined.is_not_granted(), Refusal::NotGranted)?;
+    answers::ask(!combined.is_undefined(), Refusal::Undefined)
 }
 
-// Questions 8, 6, 7 and 9, and then the later ones.
-fn object_number(q: Request, v: View, c: Call, later: u8) -> u8
-    ensures { result ≡ object_number q v c later }
+// Questions 8, 6, 7 and 9.
+fn ask_object(q: Request, v: View, c: Call) -> Result<(), Refusal>
+    ensures { (later : ℕ) → asked_or result later ≡ object_number q v c later }
 {
-    let k = q.action;
     let class = q.class;
     let target = q.object;
+    let kind = only_if(requests::is_create(q.action), c.extra <= rules::LAST_KIND);
     let open = only_if(requests::is_no_condition(class), open_for(v, c));
-    let n9 = labels::ask(only_if(target, open), 9, later);
-    let n7 = labels::ask(only_if(target, !requests::is_absent(class)), 7, n9);
-    let n6 = labels::ask(only_if(target, v.target.object.live == 1), 6, n7);
-    labels::ask(
-        only_if(requests::is_create(k), c.extra <= rules::LAST_KIND),
-        8,
-        n6,
-    )
+    answers::ask(kind, Refusal::NoSuchKind)?;
+    answers::ask(only_if(target, v.target.object.live == 1), Refusal::NotLive)?;
+    answers::ask(
+        only_if(target, !requests::is_absent(class)),
+        Refusal::KindLacksRequest,
+    )?;
+    answers::ask(only_if(target, open), Refusal::NotOpen)
 }
 
-// Questions 1 to 5, and then the later ones.
-pub fn process_number(runs: Runs, c: Call, later: u8) -> u8
-    ensures { result ≡ process_number (action_of c.request) runs c later }
+// Questions 1 to 5.
+pub fn ask_process(runs: Runs, c: Call) -> Result<(), Refusal>
+    ensures { (later : ℕ) → asked_or result later ≡ process_number (action_of c.request) runs c later }
 {
-    let n5 = labels::ask(
-        only_if(requests::is_login(c.request), c.extra < runs.users),
-        5,
-        later,
-    );
-    let n4 = labels::ask(is_free(runs, c.request), 4, n5);
-    let n3 = labels::ask(is_running(runs, c.request), 3, n4);
-    let n2 = labels::ask(in_range(c), 2, n3);
-    labels::ask(c.request <= requests::LAST, 1, n2)
+    let user = only_if(requests::is_login(c.request), c.extra < runs.users);
+    answers::ask(c.request <= requests::LAST, Refusal::NoSuchRequest)?;
+    answers::ask(in_range(c), Refusal::NoSuchProcess)?;
+    answers::ask(is_running(runs, c.request), Refusal::NotRunning)?;
+    answers::ask(is_free(runs, c.request), Refusal::NotFree)?;
+    answers::ask(user, Refusal::NoSuchUser)
 }
 
 // The object number that an accepted create gives, 255 with every other call.
-fn object_given(number: u8, k: Action, entered: u8) -> u8
-    ensures { result ≡ cond (eqb number 0 and is_create k) entered no_object }
+fn object_given(k: Action, entered: u8) -> u8
+    ensures { result ≡ cond (is_create k) entered no_object }
 {
-    if (number == 0) & requests::is_create(k) {
+    if requests::is_create(k) {
         return entered;
     }
     answers::NO_OBJECT
@@ -134,19 +130,25 @@ fn judged(q: Request, v: View, c: Call) -> Outcome
     let k = q.action;
     let answers = modules::answers(q, v, c);
     let combined = answers.combined;
-    let number = late_number(k, v, c, combined);
-    Outcome::of(number, answers, object_given(number, k, v.entered))
+    match ask_late(k, v, c, combined) {
+        Ok(()) => Outcome::Accepted {
+            answers,
+            object: object_given(k, v.entered),
+        },
+        Err(refusal) => Outcome::of(refusal.number(), answers, answers::NO_OBJECT),
+    }
 }
 
 // What a call comes to that no question before the sixth refuses. The modules are asked only where no question before the tenth does.
 pub fn outcome_later(q: Request, v: View, c: Call) -> Outcome
     ensures { result ≡ outcome_by (later_number q v c) q v c }
 {
-    let number = object_number(q, v, c, 0);
-    if number != 0 {
-        return Outcome::Refused { number };
+    match ask_object(q, v, c) {
+        Ok(()) => judged(q, v, c),
+        Err(refusal) => Outcome::Refused {
+            number: refusal.number(),
+        },
     }
-    judged(q, v, c)
 }
 
 // What questions 1 to 5 look at.
@@ -164,9 +166,10 @@ fn runs_of(v: View) -> Runs
 pub fn outcome_in(v: View, c: Call) -> Outcome
     ensures { result ≡ outcome_in v c }
 {
-    let number = process_number(runs_of(v), c, 0);
-    if number != 0 {
-        return Outcome::Refused { number };
+    if let Err(refusal) = ask_process(runs_of(v), c) {
+        return Outcome::Refused {
+            number: refusal.number(),
+        };
     }
     let q = requests::request_of(c.request, v.target.object.kind, c.extra);
     outcome_later(q, v, c)

@@ -7,19 +7,11 @@ use mathlib.Core.Logic.{◌≢◌}
 use lib.Dec.{leb, eqb}
 use native.Mathlib.Omega.{arith}
 use borrow.Author.Tests.{leb-true, ne_eqb, eqb-true}
-use Rattle.rules.specs.declared.Class.{Class}
-use Rattle.rules.specs.declared.Class.TheVariants.{Absent, Reads, Writes, Both, NoCondition}
-use Rattle.requests.specs.ClassCodes.{class_named, digit_right, each, word_right}
+use Rattle.rules.specs.declared.Class.TheVariants.{Absent}
+use Rattle.requests.specs.ClassCodes.{digit_right, each, word_right}
 use Rattle.rules.specs.Requests.{class_code, last_request, last_kind, Listed, class_among, files, directories, channels, control_data, list_of, class_of}
 use Rattle.labels.specs.Decisions.{◌and◌}
 use Rattle.labels.proofs.Laws.Decisions.{and_l, and_r, by_eq, by_test}
-
-pub named_coded : (k : Class) → class_named (class_code k) ≡ k
-named_coded Absent = refl
-named_coded Reads = refl
-named_coded Writes = refl
-named_coded Both = refl
-named_coded NoCondition = refl
 
 -- every request of a list is one
 abbrev known : List Listed → Bool

@@ -1,6 +1,7 @@
--- Bytes and records: each is told by the other; and what `map` does to a list.
-use Rattle.std.specs.Prelude.{ℕ, zero, suc, ◌*◌, ◌≤◌, ◌≡◌, refl, List, [], ◌∷◌, ◌++◌, map, length, drop}
-use Rattle.std.proofs.Common.{ap, length-drop, arith}
+-- Bytes and records: each is told by the other.
+use Rattle.std.specs.Prelude.{ℕ, zero, suc, ◌*◌, ◌≤◌, ◌≡◌, refl, List, [], ◌∷◌, ◌++◌, length, drop}
+use Rattle.std.proofs.Common.{ap, sym, length-drop, arith}
+use Rattle.std.proofs.lemmas.List.{nil_from_length}
 use Rattle.rules.specs.Setup.{SetupRecord, first_record, records_of, bytes_of, bytes_of_all}
 
 eight : (s : List ℕ) → 8 ≤ length s → bytes_of (first_record s) ++ drop 8 s ≡ s
@@ -14,13 +15,9 @@ eight (a ∷ b ∷ c ∷ d ∷ e ∷ f ∷ []) h = absurd (omega arith)
 eight (a ∷ b ∷ c ∷ d ∷ e ∷ f ∷ g ∷ []) h = absurd (omega arith)
 eight (a ∷ b ∷ c ∷ d ∷ e ∷ f ∷ g ∷ i ∷ s) h = refl
 
-empty : (s : List ℕ) → length s ≡ 0 → [] ≡ s
-empty [] h = refl
-empty (a ∷ s) h = absurd (omega arith)
-
 pub bytes_of_records : (n : ℕ) (s : List ℕ) → length s ≡ n * 8 → bytes_of_all (records_of n s) ≡ s
 unfolding bytes_of_all records_of
-bytes_of_records zero s h = empty s (omega arith)
+bytes_of_records zero s h = sym (nil_from_length s (omega arith))
 bytes_of_records (suc n) s h =
     let l : length (drop 8 s) ≡ n * 8 = simp length-drop (omega arith) in
     rw (bytes_of_records n (drop 8 s) l) (eight s (omega arith))
@@ -34,16 +31,3 @@ pub bytes_length : (rs : List SetupRecord) → length (bytes_of_all rs) ≡ leng
 unfolding bytes_of_all
 bytes_length [] = refl
 bytes_length (r ∷ rs) = let h = bytes_length rs in omega arith
-
--- Lists.
-pub map_append {ℓ κ} : {A : Type ℓ} {B : Type κ} (g : A → B) (xs ys : List A) → map g (xs ++ ys) ≡ map g xs ++ map g ys
-map_append g [] ys = refl
-map_append g (x ∷ xs) ys = ap (λ l. g x ∷ l) (map_append g xs ys)
-
-pub nothing_after {ℓ} : {A : Type ℓ} (xs : List A) → xs ++ [] ≡ xs
-nothing_after [] = refl
-nothing_after (x ∷ xs) = ap (λ l. x ∷ l) (nothing_after xs)
-
-pub map_length {ℓ κ} : {A : Type ℓ} {B : Type κ} (g : A → B) (xs : List A) → length (map g xs) ≡ length xs
-map_length g [] = refl
-map_length g (x ∷ xs) = ap suc (map_length g xs)

@@ -3,7 +3,7 @@ use Prim.Native.Nat.{ℕ, zero, suc, ◌+◌, ◌-◌, ◌<◌}
 use Rattle.std.specs.Prelude.{◌≡◌, ◌≢◌, true, false, eqb}
 use Rattle.std.proofs.Math.Path.{refl, sym, ap, subst, subst⁻¹}
 use Rattle.std.proofs.Common.{◌∙◌}
-use mathlib.Core.List.{List, [], ◌∷◌, ◌++◌, map}
+use mathlib.Core.List.{List, [], ◌∷◌, ◌++◌, map, map-append, append-nil}
 use native.Mathlib.Omega.{arith}
 use borrow.Author.Tests.{eq-eqb}
 use Rattle.labels.specs.Decisions.{at, on}
@@ -12,7 +12,6 @@ use Rattle.state.specs.State.{Objects, object_in}
 use Rattle.rules.specs.Kinds.{SetupRecord, count_of, directory_among, parent_fits}
 use Rattle.rules.specs.Setup.{listed, object_record, new_number, new_parent, written_object}
 use Rattle.rules.proofs.Past.{count_same}
-use Rattle.rules.proofs.Bytes.{map_append, nothing_after}
 use Rattle.rules.proofs.Parents.{lives, new_more, new_gone, new_below, parent_none, parent_live, parent_dead}
 use Rattle.rules.proofs.Fresh.{among_new, among_old}
 use Rattle.rules.proofs.Accepted.{onto, ParentsFit, parents_append}
@@ -27,11 +26,11 @@ first_records x n = map object_record (listed n (λ t. on (object_in x t).live) 
 
 one_more : (x : Objects) (n : ℕ) → lives x n → first_records x (suc n) ≡ first_records x n ++ (object_record (written_object x n) ∷ [])
 unfolding first_records listed object_in
-one_more x n v = rw v (map_append object_record (listed n (λ t. on (at x.lives t)) (written_object x)) (written_object x n ∷ []))
+one_more x n v = rw v (map-append object_record (listed n (λ t. on (at x.lives t)) (written_object x)) (written_object x n ∷ []))
 
 no_more : (x : Objects) (n : ℕ) → on (at x.lives n) ≡ false → first_records x (suc n) ≡ first_records x n
 unfolding first_records listed object_in
-no_more x n v = rw v (ap (map object_record) (nothing_after (listed n (λ t. on (at x.lives t)) (written_object x))))
+no_more x n v = rw v (ap (map object_record) (append-nil (listed n (λ t. on (at x.lives t)) (written_object x))))
 
 none_yet : (x : Objects) → first_records x 0 ≡ []
 unfolding first_records listed

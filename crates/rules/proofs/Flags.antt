@@ -8,7 +8,8 @@ use Rattle.std.proofs.lemmas.Nat.{and_comm}
 use Rattle.std.proofs.Math.Dec.{eqb}
 use Rattle.labels.specs.Decisions.{◌and◌, ◌or◌, at}
 use Rattle.labels.proofs.Laws.Decisions.{and_l, and_r, clash, by_test, by_eq}
-use Rattle.labels.proofs.Laws.Bits.{and_assoc, and_or, or_none_l}
+use Rattle.std.proofs.lemmas.Nat.{and_assoc}
+use Rattle.labels.proofs.Laws.Bits.{and_or, or_none_l}
 use Rattle.opens.specs.Opens.{most_objects}
 use Rattle.answers.specs.Outcomes.{no_object}
 use Rattle.state.specs.State.{Objects}
@@ -114,14 +115,14 @@ has_none m = refl
 -- no-delete may be left out of either
 has_without : (m v : ℕ) → has m (without_no_delete v) ≡ has (without_no_delete m) v
 unfolding has
-has_without m v = ap (λ (n : ℕ). not (eqb n 0)) (sym (and_assoc v 251 m) ∙ ap (bit_and v) (and_comm 251 m))
+has_without m v = ap (λ (n : ℕ). not (eqb n 0)) (and_assoc m v 251 ∙ ap (bit_and v) (and_comm 251 m))
 
 has_more : (m v : ℕ) → has (without_no_delete m) v ≡ true → has m v ≡ true
 unfolding has
 has_more m v h =
     by_eq (bit_and v m) 0
     (λ e.
-    let z : bit_and v (bit_and m 251) ≡ 0 = and_assoc v m 251 ∙ ap (λ (n : ℕ). bit_and n 251) e ∙ and_zero_l 251 in
+    let z : bit_and v (bit_and m 251) ≡ 0 = sym (and_assoc 251 v m) ∙ ap (λ (n : ℕ). bit_and n 251) e ∙ and_zero_l 251 in
     clash h (rw z refl))
     (λ n. rw (ne_eqb _ 0 n))
 

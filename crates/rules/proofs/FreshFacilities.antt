@@ -8,7 +8,7 @@ use Rattle.rules.specs.Kinds.{SetupRecord, record_number}
 use Rattle.rules.specs.Setup.{sized, switches_entered, user_entered, object_entered, enter_record, enter_all, is_accepted, records_in, read_setup, fresh}
 use Rattle.rules.specs.Setup.{accepted_setup, switches_record, user_record, object_record, every, users_of, live_objects, written_objects, setup_records}
 use Rattle.rules.specs.Promises.{of_kind, objects_entered, FreshFacilities}
-use Rattle.rules.proofs.Bytes.{nothing_after}
+use Rattle.std.proofs.lemmas.List.{append-nil}
 use Rattle.rules.proofs.Listed.{listed_same}
 use Rattle.rules.proofs.Fresh.{Fresh, fresh_setup}
 use Rattle.rules.proofs.Sections.{objects_fit}
@@ -53,7 +53,7 @@ switches' s h =
 users' : (s : List ℕ) → accepted_setup s ≡ true → users_of (fresh s) ≡ map user_entered (of_kind 1 (records_in s))
 users' s h =
     sym (users_told (users_of (fresh s)))
-    ∙ ap (map user_entered) (sym (nothing_after (map user_record (users_of (fresh s)))) ∙ sym (users_alone (fresh s)) ∙ ap (of_kind 1) (as_written s h).1)
+    ∙ ap (map user_entered) (sym (append-nil (map user_record (users_of (fresh s)))) ∙ sym (users_alone (fresh s)) ∙ ap (of_kind 1) (as_written s h).1)
 
 -- all objects of a fresh facility are live
 all_live : (f : Facility) → Fresh f → objects_entered f ≡ live_objects f
@@ -65,7 +65,7 @@ objects' s h =
     all_live (fresh s) F ∙ sym (fresh_written (fresh s) F)
     ∙ sym (objects_told (written_objects (fresh s)) (objects_fit (fresh s) F.regular))
     ∙ ap (map object_entered)
-    (sym (nothing_after (map object_record (written_objects (fresh s)))) ∙ sym (objects_alone (fresh s)) ∙ ap (of_kind 2) (as_written s h).1)
+    (sym (append-nil (map object_record (written_objects (fresh s)))) ∙ sym (objects_alone (fresh s)) ∙ ap (of_kind 2) (as_written s h).1)
 
 refused_all : (past : List SetupRecord) (f : Facility) (rs : List SetupRecord) → is_accepted (enter_all past f rs).outcome ≡ false
     → (enter_all past f rs).facility ≡ blank all_off

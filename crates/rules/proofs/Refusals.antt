@@ -20,15 +20,12 @@ not_denied n h =
     let b : n ≢ 13 = omega arith in
     rw (ne_eqb n 12 a, ne_eqb n 13 b)
 
-not_zero : (n : ℕ) → 1 ≤ n → eqb n 0 ≡ false
-not_zero n h = let a : n ≢ 0 = omega arith in ne_eqb n 0 a
-
 denied_not_zero : (n : ℕ) → denies n ≡ true → eqb n 0 ≡ false
 unfolding denies
 denied_not_zero n h =
     or_cases _ _ h
-    (λ e. let q = eqb-true n 12 e in not_zero n (omega arith))
-    (λ e. let q = eqb-true n 13 e in not_zero n (omega arith))
+    (λ e. ne_eqb n 0 (omega (arith, eqb-true n 12 e)))
+    (λ e. ne_eqb n 0 (omega (arith, eqb-true n 13 e)))
 
 refusal_kept : (f : Facility) (u n : ℕ) → after_refusal f u n ≡ put_refusals f (after_refusal f u n).refusals
 unfolding after_refusal counted put_refusals

@@ -72,7 +72,8 @@ records_back f =
     let e : length (bytes_of_all (setup_records f)) / 8 ≡ length (setup_records f) = omega arith in
     ap (λ (n : ℕ). records_of n (bytes_of_all (setup_records f))) e ∙ records_of_bytes (setup_records f)
 
-read_back : (f : Facility) → Regular f → read_setup (setup_bytes f) ≡ record { outcome = setup_accepted; facility = enter_each (blank all_off) (setup_records f) }
+read_back : (f : Facility) → Regular f
+    → read_setup (setup_bytes f) ≡ record { outcome = setup_accepted; facility = enter_each (blank all_off) (setup_records f) }
 unfolding read_setup
 read_back f R = rw (bytes_sized f R, records_back f) (accepted_read [] (setup_records f) (blank all_off) (all_accepted f R))
 

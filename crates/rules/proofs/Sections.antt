@@ -10,7 +10,7 @@ use Rattle.rules.specs.Setup.{with_parent, sections, setup_records}
 use Rattle.rules.proofs.Regular.{Regular}
 use Rattle.rules.proofs.Records.{Accepts}
 use Rattle.rules.proofs.Past.{All}
-use Rattle.rules.proofs.Bytes.{map_length}
+use Rattle.std.proofs.lemmas.List.{length-map}
 use Rattle.rules.proofs.Parents.{parent_most}
 use Rattle.rules.proofs.Directories.{first_records, parents_fit}
 use Rattle.rules.proofs.Listed.{listed_all, listed_length}
@@ -55,7 +55,7 @@ users_section_law : (f : Facility) → Regular f → Section 1 (users_section f)
 unfolding kind_of allowed
 users_section_law f R =
     let n = listed_length f.users every (user_of f) in
-    let m = map_length user_record (users_of f) in
+    let m = length-map (users_of f) user_record in
     record {
       kinds = map_all (λ r. r.kind ≡ 1) user_record (users_of f) (λ u. refl);
       few = omega (arith, R.sound.users);
@@ -68,7 +68,7 @@ objects_section_law : (f : Facility) → Regular f → Section 2 (objects_sectio
 unfolding kind_of allowed object_in first_records
 objects_section_law f R =
     let n = listed_length f.entered (live f) (written_object (objects_in f)) in
-    let m = map_length object_record (written_objects f) in
+    let m = length-map (written_objects f) object_record in
     record {
       kinds = map_all (λ r. r.kind ≡ 2) object_record (written_objects f) (λ o. refl);
       few = omega (arith, R.sound.entered);

@@ -2,7 +2,7 @@
 use Rattle.std.specs.Prelude.{ℕ, suc, ◌<◌, ◌≡◌, refl, true}
 use Rattle.std.proofs.Common.{sym, ◌∙◌, arith, add-one}
 use Rattle.std.proofs.Math.Path.{ap}
-use mathlib.Core.List.{List, [], ◌∷◌, ◌++◌, map, append_assoc}
+use mathlib.Core.List.{List, [], ◌∷◌, ◌++◌, map, append_assoc, map-append, append-nil}
 use Rattle.rules.specs.Types.{User, Object, Facility}
 use Rattle.labels.specs.Decisions.{at, on}
 use Rattle.state.specs.Shaped.{Shaped}
@@ -16,7 +16,6 @@ use Rattle.rules.specs.Setup.{setup_records}
 use Rattle.rules.proofs.Regular.{ParentFit, Regular}
 use Rattle.rules.proofs.Records.{Accepts, by_kind}
 use Rattle.rules.proofs.Past.{Under, under_weaker, under_none, later_place, InOrder, order_under, order_more}
-use Rattle.rules.proofs.Bytes.{map_append, nothing_after}
 use Rattle.rules.proofs.Listed.{listed_next}
 use Rattle.rules.proofs.Parents.{parent_same, parent_all}
 use Rattle.rules.proofs.Fresh.{Fresh, Told, Read, AsUser, AsObject, as_user, as_object, as_switches, read_record, read_none}
@@ -79,8 +78,8 @@ data Grown (f g : Facility) (r : SetupRecord) : List (Facility → List SetupRec
 
 grown : (f g : Facility) (r : SetupRecord) (ss : List (Facility → List SetupRecord)) → Grown f g r ss → together ss g ≡ together ss f ++ (r ∷ [])
 grown f g r (s ∷ ss) (here t ts e a b) =
-    (λ i. e i ++ b i) ∙ nothing_after _
-    ∙ sym (ap (λ (l : List SetupRecord). l ++ (r ∷ [])) (ap (λ (l : List SetupRecord). s f ++ l) a ∙ nothing_after (s f)))
+    (λ i. e i ++ b i) ∙ append-nil _
+    ∙ sym (ap (λ (l : List SetupRecord). l ++ (r ∷ [])) (ap (λ (l : List SetupRecord). s f ++ l) a ∙ append-nil (s f)))
 grown f g r (s ∷ ss) (there t ts e h) =
     (λ i. e i ++ grown f g r ss h i) ∙ sym (append_assoc (s f) (together ss f) (r ∷ []))
 grown f g r [] x' = elim x' [ ]
@@ -108,13 +107,13 @@ module _ (past : List SetupRecord) (f : Facility) (T : Told past f) where
 -- each kind's own law: its section has the record more
 users_grow : (f : Facility) (r : SetupRecord) → Fresh f → AsUser f r → users_section (put_user f (user_entered r)) ≡ users_section f ++ (r ∷ [])
 users_grow f r F U =
-    ap (map user_record) (new_user f (user_entered r) F.regular.sound.shaped U.room) ∙ map_append user_record (users_of f) (user_entered r ∷ [])
+    ap (map user_record) (new_user f (user_entered r) F.regular.sound.shaped U.room) ∙ map-append user_record (users_of f) (user_entered r ∷ [])
     ∙ ap (λ (x : SetupRecord). users_section f ++ (x ∷ [])) U.is
 
 objects_grow : (f : Facility) (r : SetupRecord) → Fresh f → AsObject f r → objects_section (put_object f (object_entered r)) ≡ objects_section f ++ (r ∷ [])
 objects_grow f r F O =
     ap (map object_record) (new_object f (object_entered r) F O.room O.parent refl)
-    ∙ map_append object_record (written_objects f) (object_entered r ∷ [])
+    ∙ map-append object_record (written_objects f) (object_entered r ∷ [])
     ∙ ap (λ (x : SetupRecord). objects_section f ++ (x ∷ [])) O.is
 
 user_switches : (f : Facility) (u : User) → switches_of (put_user f u) ≡ switches_of f
@@ -155,7 +154,7 @@ record_written q past f r D o A =
 all_written : (rs : List SetupRecord) (q : SetupRecord) (past : List SetupRecord) (f : Facility) → Read (q ∷ past) f → InOrder (q ∷ past)
     → AllAccepted (q ∷ past) rs → setup_records (enter_each f rs) ≡ setup_records f ++ rs
 unfolding enter_each
-all_written [] q past f D o J = sym (nothing_after _)
+all_written [] q past f D o J = sym (append-nil _)
 all_written (r ∷ rs) q past f D o J =
     all_written rs r (q ∷ past) (enter_record f r) (read_record (q ∷ past) f r D J.0) (order_more (q ∷ past) r J.0.fits o) J.1
     ∙ ap (λ (l : List SetupRecord). l ++ rs) (record_written q past f r D o J.0) ∙ append_assoc (setup_records f) (r ∷ []) rs

@@ -13,11 +13,6 @@ use console::{Input, Kept};
 use std::io::{Eprint, Print};
 use std::rt::Files;
 
-// More reads, and more calls, than there can be: a proved loop has to end.
-const READS: u64 = 1 << 53;
-
-const CALLS: u64 = 1 << 62;
-
 // What was read of the set-up: what it came to, how many bytes it has, and what the system said of the last read.
 #[derive(Clone, Copy)]
 struct SetupRead {
@@ -96,8 +91,8 @@ fn run<R: std::io::Input + Print + Eprint>(rt: &R, f: &mut [u8; in_place::SIZE])
     let mut out = io::large_buffer();
     let mut done: u64 = 0;
     let mut kept = console::nothing_kept();
-    for _ in 0..READS {
-        if done >= CALLS {
+    for _ in 0..console::READS {
+        if done >= console::CALLS {
             return;
         }
         let t = turn(rt, f, done, &mut bytes, kept, &mut out);
@@ -109,9 +104,9 @@ fn run<R: std::io::Input + Print + Eprint>(rt: &R, f: &mut [u8; in_place::SIZE])
     }
 }
 
-fn refuse<R: Print + Eprint>(rt: &R, number: u8, index: u16) {
+fn refuse<R: Print + Eprint>(rt: &R, r: SetupRefusal) {
     let mut out = io::buffer();
-    let n = lines::put_setup(&mut out, number, index);
+    let n = lines::put_setup(&mut out, r.number, r.index);
     console::write_lines(rt, &out[..n]);
 }
 
@@ -120,6 +115,6 @@ fn main(rt: HostRuntime) {
     let mut f = [0u8; in_place::SIZE];
     match read_setup(&rt, &mut bytes, &mut f).outcome {
         Ok(()) => run(&rt, &mut f),
-        Err(SetupRefusal { number, index }) => refuse(&rt, number, index),
+        Err(r) => refuse(&rt, r),
     }
 }

@@ -2,7 +2,7 @@
 // case is the story of docs/LEVELS.md.
 #![tactic(auto)]
 
-ghost use Rattle.std.specs.Prelude.{◌≤◌, ◌<◌, ◌^◌, ◌≡◌, IfSome, length};
+ghost use Rattle.std.specs.Prelude.{◌+◌, ◌<◌, ◌^◌, ◌≡◌, IfSome};
 ghost use Rattle.rules.specs.Histories.{run as Histories·run};
 ghost use Rattle.rules.specs.Lines.{calls_of};
 ghost use Rattle.run_words.specs.Turns.{Turn};
@@ -11,11 +11,7 @@ use answers::SetupRefusal;
 use console::{Input, Kept};
 use state::Facility;
 use std::io::{Eprint, Print};
-
-// More reads, and more calls, than there can be: a proved loop has to end.
-const READS: u64 = 1 << 53;
-
-const CALLS: u64 = 1 << 62;
+use text::Out;
 
 // Room for one more line, and more than that.
 const LINE: usize = 4096;
@@ -29,14 +25,16 @@ struct After {
     more: bool,
 }
 
-// Writes the lines that are stored where there is no room for one more; how many bytes of them stay, and `None` where they cannot be written.
-fn write_full<R: Print + Eprint>(rt: &R, lines: &[u8]) -> Option<usize>
-    ensures { IfSome result (λ n. n ≤ length lines.now) }
+// Writes the lines that are stored where there is no room for one more, and begins again; whether all that was to be written was.
+fn write_full<R: Print + Eprint>(rt: &R, lines: &mut Out) -> bool
+    ensures { lines.new.place + 4096 < 65536 }
 {
-    if lines.len() < words::BUFFER - LINE {
-        return Some(lines.len());
+    if lines.place() < words::BUFFER - LINE {
+        return true;
     }
-    console::write_lines(rt, lines).all.then_some(0)
+    let written = console::write_lines(rt, lines.stored()).all;
+    lines.clear();
+    written
 }
 
 // Prints the calls of a block, the first of which has this index; the facility after them, and `None` where a line cannot be written.
@@ -49,15 +47,17 @@ fn tell_block<R: Print + Eprint>(
     requires { first < 2 ^ 63 }
     ensures { IfSome result (λ f. f ≡ Histories·run start (calls_of calls.now)) }
 {
-    let mut out = io::large_buffer();
+    let mut buffer = io::large_buffer();
+    let mut lines = Out::new(&mut buffer);
     let mut f = start;
-    let mut place: usize = 0;
     for (i, bytes) in calls.chunks_exact(4).enumerate() {
         let c = history::call_at(bytes, 0);
-        place = words::tell(&mut f, first + i as u64, c, &mut out, place);
-        place = write_full(rt, &out[..place])?;
+        words::tell(&mut f, first + i as u64, c, &mut lines);
+        if !write_full(rt, &mut lines) {
+            return None;
+        }
     }
-    console::write_lines(rt, &out[..place]).all.then_some(f)
+    console::write_lines(rt, lines.stored()).all.then_some(f)
 }
 
 // Prints `short` where bytes are left over of so many; whether what there was to print was written.
@@ -93,8 +93,8 @@ fn run<R: std::io::Input + Print + Eprint>(rt: &R, start: Facility) {
     let mut f = start;
     let mut done: u64 = 0;
     let mut kept = console::nothing_kept();
-    for _ in 0..READS {
-        if done >= CALLS {
+    for _ in 0..console::READS {
+        if done >= console::CALLS {
             return;
         }
         let t = turn(rt, f, done, &mut bytes, kept);
@@ -107,9 +107,9 @@ fn run<R: std::io::Input + Print + Eprint>(rt: &R, start: Facility) {
     }
 }
 
-fn refuse<R: Print + Eprint>(rt: &R, number: u8, index: u16) {
+fn refuse<R: Print + Eprint>(rt: &R, r: SetupRefusal) {
     let mut out = io::large_buffer();
-    let n = words::put_setup(&mut out, number, index as u64);
+    let n = words::put_setup(&mut out, r.number, r.index as u64);
     console::write_lines(rt, &out[..n]);
 }
 
@@ -118,6 +118,6 @@ fn main(rt: HostRuntime) {
     let reading = console::read_setup(&rt, &mut bytes).reading;
     match reading.outcome {
         Ok(()) => run(&rt, reading.facility),
-        Err(SetupRefusal { number, index }) => refuse(&rt, number, index),
+        Err(r) => refuse(&rt, r),
     }
 }

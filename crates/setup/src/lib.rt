@@ -1,14 +1,15 @@
 // Set-ups: reading one from bytes, into a facility wherever it is.
 #![tactic(auto)]
 
-ghost use Rattle.std.specs.Prelude.{◌*◌, ◌≤◌, [], ◌≡◌, length};
+ghost use Rattle.std.specs.Prelude.{◌≡◌, length, true};
+ghost use Rattle.answers.specs.Outcomes.{asked_or, refusal_number};
 ghost use Rattle.rules.specs.Kinds.{allowed_by, also_allowed, byte_allowed, kind_of, no_kind, objects_kind, switches_kind, users_kind};
 ghost use Rattle.rules.specs.Setup.{allowed_length, enter_all, enter_record, first_record, object_entered, read_setup};
 ghost use Rattle.rules.specs.Setup.{records_of, refused_setup, switches_entered, user_entered};
 ghost use Rattle.setup.specs.Progress.{count_after, fits_after, none_before, number_after, parent_fits_in, progress_after};
 ghost use Rattle.state.specs.State.{all_off, blank};
 
-use answers::{SetupOutcome, SetupRefusal};
+use answers::{Refusal, SetupOutcome, SetupRefusal};
 use in_place::FacilityStore;
 use labels::Label;
 use rules::{Also, Byte, Kind, Reading, SetupRecord};
@@ -127,7 +128,7 @@ fn kind_of(k: u8) -> Kind
 }
 
 // What the reader keeps of the records before a record: the kind of the last one, 0 where there is none, and how many of that kind there are.
-#[derive(Clone, Copy)]
+#[derive(Clone, Copy, Default)]
 pub struct Progress {
     pub kind: u8,
     pub count: u16,
@@ -137,7 +138,7 @@ pub struct Progress {
 pub fn none_before() -> Progress
     ensures { result ≡ none_before }
 {
-    Progress { kind: 0, count: 0 }
+    Progress::default()
 }
 
 // 15: does the place of a record's kind fit?
@@ -211,22 +212,18 @@ pub fn parent_fits<S: FacilityStore>(s: &S, r: SetupRecord) -> bool
     }
     let t = r.six - 1;
     let directory = s.object(t).kind == rules::DIRECTORY_KIND;
-    (r.kind != 2) | ((t < s.entered()) & directory)
+    (r.kind != rules::OBJECT_RECORD) | ((t < s.entered()) & directory)
 }
 
 // The questions 15 to 17 and 19 of one record, where `fit` answers 19.
-pub fn record_number(before: Progress, fit: bool, r: SetupRecord) -> u8
-    ensures { result ≡ number_after before fit r }
+pub fn ask_record(before: Progress, fit: bool, r: SetupRecord) -> Result<(), Refusal>
+    ensures { asked_or result 0 ≡ number_after before fit r }
 {
     let d = kind_of(r.kind);
-    let fits = fits(before, d.place);
-    let room = count_of(before, r.kind) < d.most;
-    let allowed = allowed_by(d, r);
-    labels::ask(
-        fits,
-        15,
-        labels::ask(room, 16, labels::ask(allowed, 17, labels::ask(fit, 19, 0))),
-    )
+    answers::ask(fits(before, d.place), Refusal::Place)?;
+    answers::ask(count_of(before, r.kind) < d.most, Refusal::TooMany)?;
+    answers::ask(allowed_by(d, r), Refusal::Byte)?;
+    answers::ask(fit, Refusal::Parent)
 }
 
 // What is kept with one record more; there are never more of a kind than the most.
@@ -299,27 +296,28 @@ fn enter_record<S: FacilityStore>(s: &mut S, r: SetupRecord)
 }
 
 // Of a refused set-up nothing stays.
-fn refuse<S: FacilityStore>(s: &mut S, number: u8, index: u16) -> SetupOutcome
-    ensures value { result ≡ (refused_setup number index).outcome }
-    ensures becomes { S.becomes s.old s.new (refused_setup number index).facility }
+fn refuse<S: FacilityStore>(s: &mut S, refusal: Refusal, index: u16) -> SetupOutcome
+    ensures value { result ≡ (refused_setup (refusal_number refusal) index).outcome }
+    ensures becomes { S.becomes s.old s.new (refused_setup (refusal_number refusal) index).facility }
 {
     s.blank(Switches::off());
-    Err(SetupRefusal { number, index })
+    Err(SetupRefusal {
+        number: refusal.number(),
+        index,
+    })
 }
 
-// The first records of a set-up, each asked in turn. The facility is not blanked before: the first record does it.
-fn read_records<S: FacilityStore>(s: &mut S, bytes: &[u8], count: u16) -> SetupOutcome
-    requires { (1 ≤ count) × (count * 8 ≤ length bytes.now) }
-    ensures value { result ≡ (enter_all [] (blank all_off) (records_of count bytes.now)).outcome }
-    ensures becomes { S.becomes s.old s.new (enter_all [] (blank all_off) (records_of count bytes.now)).facility }
+// The records of a set-up, each asked in turn. The facility is not blanked before: the first record does it.
+fn read_records<S: FacilityStore>(s: &mut S, bytes: &[u8]) -> SetupOutcome
+    requires { allowed_length (length bytes.now) ≡ true }
+    ensures value { result ≡ (read_setup bytes.now).outcome }
+    ensures becomes { S.becomes s.old s.new (read_setup bytes.now).facility }
 {
     let mut before = none_before();
-    for k in 0..count {
-        let from = (k as usize) * RECORD;
-        let r = record_of(&bytes[from..from + RECORD]);
-        let number = record_number(before, parent_fits(s, r), r);
-        if number != 0 {
-            return refuse(s, number, k);
+    for (k, record) in bytes.chunks_exact(RECORD).enumerate() {
+        let r = record_of(record);
+        if let Err(refusal) = ask_record(before, parent_fits(s, r), r) {
+            return refuse(s, refusal, k as u16);
         }
         enter_record(s, r);
         before = progress_after(before, r.kind);
@@ -332,11 +330,10 @@ pub fn read_in<S: FacilityStore>(s: &mut S, bytes: &[u8]) -> SetupOutcome
     ensures value { result ≡ (read_setup bytes.now).outcome }
     ensures becomes { S.becomes s.old s.new (read_setup bytes.now).facility }
 {
-    let n = bytes.len();
-    if !allowed_length(n) {
-        return refuse(s, 14, 0);
+    if !allowed_length(bytes.len()) {
+        return refuse(s, Refusal::Length, 0);
     }
-    read_records(s, bytes, ((n / RECORD) % 65536) as u16)
+    read_records(s, bytes)
 }
 
 // The facility and the outcome of a set-up's bytes, of any length.

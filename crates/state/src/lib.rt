@@ -2,8 +2,6 @@
 #![tactic(auto)]
 
 ghost use Rattle.std.specs.Prelude.{◌≡◌};
-ghost use Rattle.labels.specs.Decisions.{at};
-ghost use Rattle.labels.specs.Labels.{label};
 ghost use Rattle.state.specs.State.{all_off, blank, cloned, fresh_process, no_process, opened, process_of, put_process, terminated};
 
 use labels::Label;
@@ -35,7 +33,7 @@ pub struct Call {
 
 // A process: `current`, `readmark` and `writemark` move with its calls.
 #[repr(C)]
-#[derive(Clone, Copy)]
+#[derive(Clone, Copy, Default)]
 pub struct Process {
     pub running: u8,
     pub owner: u8,
@@ -49,7 +47,7 @@ pub struct Process {
 
 // A user: the clearance is fixed by the set-up.
 #[repr(C)]
-#[derive(Clone, Copy)]
+#[derive(Clone, Copy, Default)]
 pub struct User {
     pub clearance: Label,
     pub role: u8,
@@ -72,7 +70,7 @@ pub struct Object {
 
 // Which modules are on, each 0 or 1.
 #[repr(C)]
-#[derive(Clone, Copy)]
+#[derive(Clone, Copy, Default)]
 pub struct Switches {
     pub mac: u8,
     pub fc: u8,
@@ -174,8 +172,8 @@ impl Process {
         Process {
             running: 1,
             owner,
-            current: Label { level: 0, set: 0 },
-            readmark: Label { level: 0, set: 0 },
+            current: Label::default(),
+            readmark: Label::default(),
             writemark: Label {
                 level: Self::TOP,
                 set: labels::ALL_CATEGORIES,
@@ -189,15 +187,7 @@ impl Process {
     pub fn none() -> Process
         ensures { result ≡ no_process }
     {
-        Process {
-            running: 0,
-            owner: 0,
-            current: Label { level: 0, set: 0 },
-            readmark: Label { level: 0, set: 0 },
-            writemark: Label { level: 0, set: 0 },
-            automatic: 0,
-            moves: 0,
-        }
+        Process::default()
     }
 }
 
@@ -205,20 +195,8 @@ impl Switches {
     pub fn off() -> Switches
         ensures { result ≡ all_off }
     {
-        Switches {
-            mac: 0,
-            fc: 0,
-            sim: 0,
-            ff: 0,
-        }
+        Switches::default()
     }
-}
-
-// The label of a level byte of an array and a byte of categories of another.
-fn label_at(levels: &[u8], sets: &[u8], i: usize) -> Label
-    ensures { result ≡ label (at levels.now i) (at sets.now i) }
-{
-    Label::of(labels::at(levels, i), labels::at(sets, i))
 }
 
 // Methods by value hand the new state back.
@@ -269,9 +247,9 @@ impl Facility {
         Process {
             running: labels::at(&self.runnings, i),
             owner: labels::at(&self.owners, i),
-            current: label_at(&self.currents, &self.currentsets, i),
-            readmark: label_at(&self.readmarks, &self.readsets, i),
-            writemark: label_at(&self.writemarks, &self.writesets, i),
+            current: Label::at(&self.currents, &self.currentsets, i),
+            readmark: Label::at(&self.readmarks, &self.readsets, i),
+            writemark: Label::at(&self.writemarks, &self.writesets, i),
             automatic: labels::at(&self.automatics, i),
             moves: labels::at(&self.moves, i),
         }

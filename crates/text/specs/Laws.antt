@@ -2,3 +2,4 @@
 pub mod Decimals
 pub mod Stored
 pub mod Stores
+pub mod Puts

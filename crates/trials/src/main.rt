@@ -31,9 +31,9 @@ fn show_block<R: Print>(rt: &R, f: Facility, bytes: &[u8], out: &mut [u8]) {
     tell(rt, &out[..n]);
 }
 
-fn show_refused<R: Print>(rt: &R, number: u8, index: u16) {
+fn show_refused<R: Print>(rt: &R, r: SetupRefusal) {
     let mut out = io::buffer();
-    let n = lines::put_setup(&mut out, number, index);
+    let n = lines::put_setup(&mut out, r.number, r.index);
     tell(rt, &out[..n]);
 }
 
@@ -198,7 +198,7 @@ fn one<R: Print>(rt: &R, setup: &[u8], bytes: &[u8]) {
     let r = setup::read_setup(setup);
     match r.outcome {
         Ok(()) => accepted(rt, r.facility, setup, bytes),
-        Err(SetupRefusal { number, index }) => show_refused(rt, number, index),
+        Err(r) => show_refused(rt, r),
     }
 }
 

@@ -10,7 +10,7 @@ pub const BYTES: usize = 4 * (opens::PROCESSES as usize);
 
 // The open that a process has begun, and the combined answer that its begin was given; request 0, which is no open, where there is none.
 #[repr(C)]
-#[derive(Clone, Copy)]
+#[derive(Clone, Copy, Default)]
 pub struct Unfinished {
     pub request: u8,
     pub target: u8,
@@ -22,12 +22,7 @@ impl Unfinished {
     pub fn none() -> Unfinished
         ensures { result ≡ no_unfinished }
     {
-        Unfinished {
-            request: 0,
-            target: 0,
-            extra: 0,
-            first: 0,
-        }
+        Unfinished::default()
     }
 }
 

@@ -1,17 +1,18 @@
--- A pattern is stored byte by byte: what is left of it, stored behind what is stored, makes the whole.
-use Prim.Native.Nat.{ℕ, suc, ◌+◌, ◌≤◌, ◌<◌, min}
-use mathlib.Core.Path.{◌≡◌, refl, sym, ◌∙◌, ap}
+-- A pattern is stored byte by byte: what is left of it makes what is stored the whole.
+use Prim.Native.Nat.{ℕ, suc, ◌+◌, ◌≤◌, ◌<◌}
+use mathlib.Core.Path.{◌≡◌, sym, ◌∙◌, ap}
 use mathlib.Core.Logic.{◌≢◌}
-use mathlib.Core.List.{List, [], ◌∷◌, ◌++◌}
+use mathlib.Core.List.{List, [], ◌∷◌, ◌++◌, append_assoc, append-nil}
 use lib.Dec.{ltb, eqb}
 use lib.ListN.{length, drop, get_or}
-use lib.Seq.{drop-cons, drop-length, length-sets}
+use lib.Seq.{drop-cons, drop-length}
 use native.Mathlib.Omega.{arith}
 use borrow.Author.Tests.{ne_eqb}
 use Rattle.labels.specs.Decisions.{◌and◌, ◌or◌, at}
 use Rattle.labels.proofs.Laws.Decisions.{by_test}
-use Rattle.text.specs.Stored.{Stored}
-use Rattle.text.specs.Laws.Stored.{then, as_text}
+use Rattle.text.specs.declared.Out.{Out}
+use Rattle.text.specs.Stored.{Put}
+use Rattle.text.specs.Laws.Puts.{◌▹◌, put_as}
 use Rattle.words.specs.Patterns.{said, signs, filled_from}
 
 -- a byte that is none of the signs
@@ -41,35 +42,35 @@ at_most_one x =
     (λ s. rw s (omega arith))
     (λ s. by_test ((ltb 32 x and ltb x 40) or (ltb 59 x and ltb x 65)) (λ t. rw (s, t) (omega arith)) (λ t. rw (s, t) (omega arith)))
 
--- with the buffer o and the place p as they are, the text xs makes the whole text ys stored at q of the buffer l
-abbrev pub Leaves : List ℕ → ℕ → List ℕ → List ℕ → ℕ → List ℕ → Type 0
-Leaves o p xs l q ys = (m : List ℕ) (r : ℕ) → Stored o p xs m r → Stored l q ys m r
+-- what is stored of the pattern xs before its byte j, with the numbers ns before the i-th: what is left makes it whole
+pub record Filled (xs ns : List ℕ) (a b : Out) (i j : ℕ) : Type 0 where
+  pub told : List ℕ
+  pub stored : Put a told b
+  pub rest : told ++ filled_from i (drop j xs) ns ≡ filled_from 0 xs ns
 
-module _ (l ys ns xs : List ℕ) (q : ℕ) where
+module _ (xs ns : List ℕ) (a : Out) where
   -- one byte more: the number n, said by byte j, and k signs passed
-  pub fill_goes_on : (o m : List ℕ) (p r i j n k : ℕ) → j < length xs → n ≡ at ns i → k ≡ signs (get_or xs j 0)
-      → Leaves o p (filled_from i (drop j xs) ns) l q ys → Stored o p (said (get_or xs j 0) n) m r
-      → Leaves m r (filled_from (i + k) (drop (j + 1) xs) ns) l q ys
+  pub fill_goes_on : (b d : Out) (i j n k : ℕ) → j < length xs → n ≡ at ns i → k ≡ signs (get_or xs j 0)
+      → Filled xs ns a b i j → Put b (said (get_or xs j 0) n) d → Filled xs ns a d (i + k) (j + 1)
   unfolding filled_from
-  fill_goes_on o m p r i j n k h hn hk left s o' r' t =
+  fill_goes_on b d i j n k h hn hk l s =
       let x = get_or xs j 0 in
-      let a : j + 1 ≡ suc j = omega arith in
-      let d = drop-cons xs j 0 h ∙ ap (λ (b : ℕ). x ∷ drop b xs) (sym a) in
-      let e =
-      ap (λ (b : ℕ). said x b ++ filled_from (i + k) (drop (j + 1) xs) ns) hn
-      ∙ ap (λ (b : ℕ). said x (at ns i) ++ filled_from (i + b) (drop (j + 1) xs) ns) hk
-      ∙ ap (λ (z : List ℕ). filled_from i z ns) (sym d) in
-      left o' r' (as_text o o' _ _ p r' e (then o m o' p r r' (said x n) (filled_from (i + k) (drop (j + 1) xs) ns) s t))
+      let told = l.told in
+      let e : j + 1 ≡ suc j = omega arith in
+      let left = drop-cons xs j 0 h ∙ ap (λ (m : ℕ). x ∷ drop m xs) (sym e) in
+      let more =
+      ap (λ (m : ℕ). said x m ++ filled_from (i + k) (drop (j + 1) xs) ns) hn
+      ∙ ap (λ (m : ℕ). said x (at ns i) ++ filled_from (i + m) (drop (j + 1) xs) ns) hk
+      ∙ ap (λ (z : List ℕ). filled_from i z ns) (sym left) in
+      record {
+        told = told ++ said x n;
+        stored = l.stored ▹ s;
+        rest = append_assoc told (said x n) (filled_from (i + k) (drop (j + 1) xs) ns) ∙ ap (λ (z : List ℕ). told ++ z) more ∙ l.rest;
+      }
 
-  pub fill_ends : (o : List ℕ) (p i j : ℕ) → j ≡ length xs → p ≤ length o → Leaves o p (filled_from i (drop j xs) ns) l q ys → Stored l q ys o p
+  pub fill_ends : (b : Out) (i j : ℕ) → j ≡ length xs → Filled xs ns a b i j → Put a (filled_from 0 xs ns) b
   unfolding filled_from
-  fill_ends o p i j e h left =
-      let d = ap (λ (k : ℕ). drop k xs) e ∙ drop-length xs in
-      left o p (as_text o o [] _ p p (ap (λ (z : List ℕ). filled_from i z ns) (sym d)) (refl, let z : p ≡ min (p + 0) (length o) = omega arith in z))
-
--- a store keeps the buffer's length, and its end is within the buffer
-kept : (o m xs : List ℕ) (p q : ℕ) → Stored o p xs m q → length m ≡ length o
-kept o m xs p q s = ap length s.0 ∙ length-sets o p xs
-
-pub within : (o m xs : List ℕ) (p q : ℕ) → Stored o p xs m q → q ≤ length m
-within o m xs p q s = let n = kept o m xs p q s in let e = s.1 in omega arith
+  fill_ends b i j e l =
+      let none = ap (λ (k : ℕ). drop k xs) e ∙ drop-length xs in
+      let told = l.told in
+      put_as (sym (append-nil told) ∙ ap (λ (z : List ℕ). told ++ filled_from i z ns) (sym none) ∙ l.rest) l.stored

@@ -1,21 +1,19 @@
 -- The loops that store records are the definition's writing.
 use Prim.Native.Nat.{ℕ, suc, ◌+◌, ◌*◌, ◌≤◌, ◌<◌}
 use mathlib.Core.Path.{◌≡◌, ◌∙◌, ap, refl, sym, subst}
-use mathlib.Core.List.{List, [], ◌∷◌, ◌++◌, map}
+use mathlib.Core.List.{List, [], ◌∷◌, ◌++◌, map, map-append}
 use mathlib.Core.Bool.{Bool, cond}
-use lib.ListN.{length, length-append, drop}
+use lib.ListN.{length, length-append, length-map, drop}
 use lib.Dec.{leb}
 use lib.Seq.{length-sets, sets, sets-eq}
 use native.Mathlib.Omega.{arith}
 use native.Mathlib.Numerals.{add-one}
-use borrow.Author.Tests.{le-leb, lt-leb, eq-eqb, ne_eqb}
+use borrow.Author.Tests.{le-leb, lt-leb, ne_eqb}
 use Rattle.rules.specs.declared.SetupRecord.{SetupRecord}
 use Rattle.writer.specs.Writing.{section_of, put_one, put_all, Stored, live_record}
-use Rattle.labels.specs.Decisions.{on}
 use Rattle.labels.proofs.Laws.Decisions.{by_test}
-use Rattle.rules.specs.Setup.{bytes_of, listed, object_record, with_parent, renumbered, bytes_of_all, write_setup, setup_records, setup_bytes}
-use Rattle.rules.proofs.Parents.{parent_same}
-use Rattle.rules.proofs.Bytes.{map_append, map_length, bytes_length}
+use Rattle.rules.specs.Setup.{bytes_of, listed, bytes_of_all, write_setup, setup_records, setup_bytes}
+use Rattle.rules.proofs.Bytes.{bytes_length}
 use Rattle.rules.proofs.Listed.{listed_length}
 use Rattle.state.specs.declared.Object.{Object}
 use Rattle.state.specs.State.{Objects}
@@ -68,13 +66,13 @@ section_more : {A : Type 0} (item : A → SetupRecord) (n : ℕ) (test : ℕ →
     → section_of item (n + 1) test value ≡ section_of item n test value ++ next_of item n test value
 unfolding listed
 section_more item n test value =
-    ap (λ (k : ℕ). section_of item k test value) (add-one n) ∙ map_append item (listed n test value) (cond (test n) (value n ∷ []) [])
+    ap (λ (k : ℕ). section_of item k test value) (add-one n) ∙ map-append item (listed n test value) (cond (test n) (value n ∷ []) [])
 
 -- a section of n numbers takes at most 8 bytes for each
 pub section_most : {A : Type 0} (item : A → SetupRecord) (n : ℕ) (test : ℕ → Bool) (value : ℕ → A) (o l : List ℕ) (p q : ℕ)
     → Stored o p (section_of item n test value) l q → q ≤ p + n * 8
 section_most item n test value o l p q a =
-    let m = map_length item (listed n test value) in
+    let m = length-map (listed n test value) item in
     let h = listed_length n test value in
     omega (arith, a.place)
 
@@ -108,11 +106,6 @@ module _ {A : Type 0} {item : A → SetupRecord} {test : ℕ → Bool} {value : 
     section_ends h =
         let e : k ≡ n = omega (arith, S.most) in
         subst (λ (j : ℕ). Stored o p (section_of item j test value) l q) e S.stored
-
--- A live object has its record, another none.
-pub live_stored : (o : List ℕ) (p : ℕ) (y : Objects) (x : Object) (m : List ℕ) (q : ℕ) → x.live ≡ 1
-    → Stored o p (object_record (renumbered y x) ∷ []) m q → Stored o p (live_record y x) m q
-live_stored o p y x m q h s = rw (eq-eqb _ 1 h) s
 
 pub dead_stored : (o : List ℕ) (p : ℕ) (y : Objects) (x : Object) → (x.live ≡ 1 → ⊥) → Stored o p (live_record y x) o p
 dead_stored o p y x h = rw (ne_eqb _ 1 h) (nothing o p)

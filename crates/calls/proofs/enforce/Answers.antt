@@ -1,39 +1,41 @@
--- The same, and what the call changes is made.
-use Rattle.std.proofs.Common.{refl, ◌∙◌, ap, subst, sym}
-use Rattle.questions.specs.Laws.Calls.{query_first, query_later, refused_stays}
-use Rattle.effects.specs.Laws.Changes.{enforced_facility}
-use Rattle.state.specs.declared.Facility.{Facility}
-use Rattle.state.specs.State.{changed}
-use Rattle.calls.proofs.Seen.{asked_change, asked_class, asked_class_in, asked_outcome}
+-- Refused by an early question: nothing changes. Else what the call comes to tells what it changes.
+use Rattle.std.proofs.Common.{◌∙◌, sym}
+use Rattle.answers.proofs.Laws.Questions.{no_refusal_is_0}
+use Rattle.questions.specs.Laws.Calls.{query_first, refused_stays}
+use Rattle.calls.proofs.Seen.{asked_after, asked_query}
 use Rattle.calls.proofs.enforce.Goals as goal
 
-pub returns-then-number-ne0 : goal.returns-then-number-ne0
-returns-then-number-ne0 g c =
+pub returns-in-Err : goal.returns-in-Err
+returns-in-Err g c =
     let a = c.args in
     let f = g.S.FacilityStore.facility a.s.now in
-    let n = c.first_number-number.ensures in
+    let m = no_refusal_is_0 _ c.number.ensures in
+    let n = c.number.ensures ∙ c.in-Err.ensures 0 in
     record {
-      value = query_first f a.c _ n c.if-number-ne0.true;
-      becomes = rw (← refused_stays f a.c _ n c.if-number-ne0.true) (g.met.S.FacilityStore.unchanged a.s.now);
+      value = query_first f a.c _ n m;
+      becomes = rw (← refused_stays f a.c _ n m) (g.met.S.FacilityStore.unchanged a.s.now);
     }
 
-pub view_asked-v-requires : goal.view_asked-v-requires
-view_asked-v-requires g c =
-    let a = c.args in
-    asked_class (g.S.FacilityStore.facility a.s.now) a.c _ c.request-q.ensures
-
-pub make-requires : goal.make-requires
-make-requires g c =
-    let a = c.args in
-    asked_class_in (g.S.FacilityStore.facility a.s.now) a.c _ _ c.request-q.ensures c.view_asked-v.ensures
-
-pub returns : goal.returns
-returns g c =
+pub returns-in-Accepted : goal.returns-in-Accepted
+returns-in-Accepted g c =
     let a = c.args in
     let f = g.S.FacilityStore.facility a.s.now in
     let v = c.view_asked-v.ensures in
-    let q =
-    query_later f a.c _ _ _ refl c.first_number-number.ensures c.if-number-ne0.false
-    (asked_outcome f a.c _ _ _ c.request-q.ensures v c.outcome_later-outcome.ensures) in
-    let e = ap (changed f) (asked_change f a.c _ _ v) ∙ enforced_facility f a.c _ _ _ c.number.ensures q refl in
-    record { value = q; becomes = subst (λ (x : Facility). g.S.FacilityStore.becomes a.s.now c.make.new.s x) e c.make.ensures }
+    let q = asked_query f a.c _ _ _ (c.in_default.ensures 0) c.request-q.ensures v c.outcome_later-outcome.ensures in
+    record { value = q; becomes = rw (← asked_after f a.c _ _ v (sym c.in-Accepted.is ∙ q)) c.make_accepted.ensures }
+
+pub returns-in-Denied : goal.returns-in-Denied
+returns-in-Denied g c =
+    let a = c.args in
+    let f = g.S.FacilityStore.facility a.s.now in
+    let v = c.view_asked-v.ensures in
+    let q = asked_query f a.c _ _ _ (c.in_default.ensures 0) c.request-q.ensures v c.outcome_later-outcome.ensures in
+    record { value = q; becomes = rw (← asked_after f a.c _ _ v (sym c.in-Denied.is ∙ q)) c.count_refusal.ensures }
+
+pub returns-in-Refused : goal.returns-in-Refused
+returns-in-Refused g c =
+    let a = c.args in
+    let f = g.S.FacilityStore.facility a.s.now in
+    let v = c.view_asked-v.ensures in
+    let q = asked_query f a.c _ _ _ (c.in_default.ensures 0) c.request-q.ensures v c.outcome_later-outcome.ensures in
+    record { value = q; becomes = rw (← asked_after f a.c _ _ v (sym c.in-Refused.is ∙ q)) (g.met.S.FacilityStore.unchanged a.s.now) }

@@ -1,5 +1,5 @@
 -- What is gathered, with what is inherited further up, makes the effective flags.
-use Rattle.std.specs.Prelude.{◌≡◌, ◌<◌}
+use Rattle.std.specs.Prelude.{◌≡◌}
 use Rattle.std.specs.Int.Bits.{bit_or}
 use Rattle.rules.specs.FileFlags.{effective}
 use Rattle.flags.specs.Lists.{number_plus_1}

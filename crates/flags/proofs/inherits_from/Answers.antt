@@ -1,5 +1,5 @@
 -- A parent that is none, a later one, and else by the flag and the parent's life.
-use Rattle.std.specs.Prelude.{◌≡◌, ◌+◌, ◌-◌, ◌≢◌, true, false}
+use Rattle.std.specs.Prelude.{◌≡◌, ◌+◌, ◌-◌, true, false}
 use Rattle.std.proofs.Common.{◌∙◌, ap, arith, sym}
 use Rattle.labels.specs.Decisions.{◌and◌, at}
 use Rattle.rules.specs.FileFlags.{flags_of, parent_of}

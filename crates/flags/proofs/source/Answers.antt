@@ -1,8 +1,7 @@
 -- The source further up is the source of the whole.
-use Rattle.std.specs.Prelude.{◌≡◌, None, false}
+use Rattle.std.specs.Prelude.{◌≡◌, false}
 use Rattle.std.proofs.Common.{◌∙◌, ap, arith, rules, sym}
 use Rattle.rules.specs.FileFlags.{flags_of, has}
-use Rattle.flags.specs.Lists.{inherits_from}
 use Rattle.state.specs.declared.Object.{Object}
 use Rattle.state.specs.State.{object_in, objects_in}
 use Rattle.flags.proofs.Chain.{from_below, source_here, source_none, source_some}

@@ -1,11 +1,8 @@
 -- The calls that are left, told to the account so far.
 use Rattle.std.specs.Prelude.{◌*◌}
 use Rattle.std.proofs.Common.{sym, ◌∙◌, rules}
-use Rattle.history.specs.Laws.CallBytes.{account_begins, account_done, next_account, no_more_calls}
+use Rattle.history.specs.Laws.CallBytes.{account_done, next_account, no_more_calls}
 use Rattle.history.proofs.account.Goals as goal
-
-pub loop-k-init : goal.loop-k-init
-loop-k-init c = account_begins _ _ _ _ c.read_setup.ensures c.start-l.ensures
 
 pub loop-k-preserved : goal.loop-k-preserved
 loop-k-preserved c =

@@ -1,17 +1,13 @@
 -- The calls that are left, run on the facility so far.
-use Rattle.std.specs.Prelude.{ℕ, ◌+◌, ◌*◌, drop}
+use Rattle.std.specs.Prelude.{◌+◌, ◌*◌, drop}
 use Rattle.std.proofs.Common.{sym, ◌∙◌, ap, rules}
 use Rattle.state.specs.declared.Call.{Call}
 use Rattle.state.specs.declared.Facility.{Facility}
-use Rattle.rules.specs.declared.Reading.{Reading}
 use Rattle.rules.specs.Calls.{after}
 use Rattle.rules.specs.Histories.{run}
 use Rattle.rules.specs.Lines.{calls_of}
 use Rattle.history.specs.Laws.CallBytes.{next_run, no_more_calls, run_done}
 use Rattle.history.proofs.replay.Goals as goal
-
-pub loop-k-init : goal.loop-k-init
-loop-k-init c = ap (λ (x : Reading). run x.facility (calls_of c.args.calls.now)) (sym c.read_setup.ensures)
 
 pub loop-k-preserved : goal.loop-k-preserved
 loop-k-preserved c =

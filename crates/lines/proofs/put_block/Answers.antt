@@ -1,25 +1,28 @@
 -- The lines, and `short` behind them.
-use mathlib.Core.List.{◌++◌}
 use lib.ListN.{length-append}
 use native.Mathlib.Omega.{arith}
+use borrow.Author.Rules.{rules}
 use Rattle.lines.specs.Blocks.{lines_of}
 use Rattle.lines.proofs.Blocks.{short_most}
 use Rattle.rules.specs.Lines.{short_line}
-use Rattle.text.specs.Laws.Stored.{then, counts}
+use Rattle.text.specs.Laws.Puts.{◌▹◌, put_counts, put_from}
 use Rattle.lines.proofs.put_block.Goals as goal
 
-pub returns : goal.returns
-returns g c =
+pub returns-clause-stored : goal.returns-clause-stored
+returns-clause-stored g c =
+    let p = put_from c.new-lines.ensures (c.put_lines.ensures.stored ▹ c.put_short.ensures) in
+    search (rules, p.stored, p.same)
+
+pub returns-clause-calls_len_bound : goal.returns-clause-calls_len_bound
+returns-clause-calls_len_bound g c =
     let a = c.args in
-    let l = c.put_lines-place.ensures in
-    let t = lines_of a.first (g.S.FacilityStore.facility a.s.now) a.calls.now in
-    let s = short_line a.calls.now in
-    let n = length-append t s in
+    let n = length-append (lines_of a.first (g.S.FacilityStore.facility a.s.now) a.calls.now) (short_line a.calls.now) in
     let m = short_most a.calls.now in
-    let z = then a.out.now _ _ 0 _ _ t s l.stored c.put_short.ensures in
-    record {
-      stored = z;
-      becomes = l.becomes;
-      calls_len_bound = (let b = l.calls_len_bound in omega arith);
-      prefix_len = counts a.out.now _ (t ++ s) 0 _ z;
-    }
+    let b = c.put_lines.ensures.calls_len_bound in
+    omega arith
+
+pub returns-clause-prefix_len : goal.returns-clause-prefix_len
+returns-clause-prefix_len g c =
+    let p = put_from c.new-lines.ensures (c.put_lines.ensures.stored ▹ c.put_short.ensures) in
+    let k = put_counts p in
+    search (rules, k, p.same)

@@ -5,5 +5,5 @@ use Rattle.lines.proofs.put_lines.Given as goal
 
 abbrev pub invariant-loop-k : goal.invariant-loop-k
 invariant-loop-k g l =
-    Left l.initial.out l.first (g.S.FacilityStore.facility l.initial.s) l.calls l.out l.place (l.first + l.k) (g.S.FacilityStore.facility l.s) (4 * l.k)
+    Left l.fn.out l.first (g.S.FacilityStore.facility l.initial.s) l.calls l.out (l.first + l.k) (g.S.FacilityStore.facility l.s) (4 * l.k)
     × g.S.FacilityStore.becomes l.initial.s l.s (g.S.FacilityStore.facility l.s)

@@ -4,11 +4,11 @@ use Prim.Native.Nat.{ℕ}
 use mathlib.Core.Path.{◌≡◌, ◌∙◌, ap}
 use mathlib.Core.List.{◌++◌}
 use borrow.Author.Rules.{rules}
-use Rattle.lines.specs.Texts.{call_text, outcome_text}
+use Rattle.lines.specs.Texts.{call_text}
 use Rattle.rules.specs.Lines.{field}
 use Rattle.answers.specs.Answers.{code}
 use Rattle.answers.specs.Outcomes.{number_of, answers_of}
-use Rattle.text.specs.Laws.Stored.{then, as_text}
+use Rattle.text.specs.Laws.Puts.{◌▹◌, put_as}
 use Rattle.lines.proofs.put_outcome.Goals as goal
 
 pub returns : goal.returns
@@ -17,12 +17,10 @@ returns c =
     let n = c.number in
     let k = c.code-code in
     let d : k.result ≡ code (answers_of a.outcome).combined = k.ensures ∙ ap (λ (x : Answers). code x.combined) c.answers-answers.ensures in
-    let s0 = then a.out.now _ _ a.place _ _ (call_text a.index a.c) (field n.result) c.put_call-p1.ensures c.put_byte-p2.ensures in
-    let s1 = then a.out.now _ _ a.place _ _ (call_text a.index a.c ++ field n.result) (field k.result) s0
-    c.put_byte.ensures in record {
-      stored = as_text a.out.now _ _ (outcome_text a.index a.c a.outcome) a.place _
-          (ap (λ (x : ℕ). call_text a.index a.c ++ field x ++ field k.result) n.ensures
-          ∙ ap (λ (x : ℕ). call_text a.index a.c ++ field (number_of a.outcome) ++ field x) d) s1;
+    record {
+      stored = put_as (ap (λ (x : ℕ). call_text a.index a.c ++ field x ++ field k.result) n.ensures
+          ∙ ap (λ (x : ℕ). call_text a.index a.c ++ field (number_of a.outcome) ++ field x) d)
+          (c.put_call.ensures ▹ c.byte.ensures ▹ c.byte-2.ensures);
       outcome_bound = search (rules, n.ensures);
       outcome_bound_2 = search (rules, d);
     }

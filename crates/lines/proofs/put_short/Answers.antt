@@ -1,17 +1,10 @@
 -- The text `short_line calls` is stored.
 use Rattle.lines.proofs.Blocks.{not_short, is_short}
-use Rattle.rules.specs.Lines.{short_line}
-use Rattle.text.specs.Laws.Stored.{as_text}
+use Rattle.text.specs.Laws.Puts.{put_as}
 use Rattle.lines.proofs.put_short.Goals as goal
 
 pub returns-then-calls-eq0 : goal.returns-then-calls-eq0
-returns-then-calls-eq0 c =
-    let a = c.args in
-    as_text a.out.now _ _ (short_line a.calls.now) a.place _ (not_short a.calls.now c.if-calls-eq0.true)
-    c.put_text.ensures
+returns-then-calls-eq0 c = put_as (not_short c.args.calls.now c.if-calls-eq0.true) c.nothing.ensures
 
 pub returns : goal.returns
-returns c =
-    let a = c.args in
-    as_text a.out.now _ _ (short_line a.calls.now) a.place _ (is_short a.calls.now c.if-calls-eq0.false)
-    c.put_text-2.ensures
+returns c = put_as (is_short c.args.calls.now c.if-calls-eq0.false) c.text.ensures

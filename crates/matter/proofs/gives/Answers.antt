@@ -5,6 +5,3 @@ use Rattle.matter.proofs.gives.Goals as goal
 pub returns-in-Writes : goal.returns-in-Writes
 unfolding ◌and◌
 returns-in-Writes c = rw c.in-Writes.is
-
-pub returns-in-NoCondition : goal.returns-in-NoCondition
-returns-in-NoCondition c = rw c.in-NoCondition.is

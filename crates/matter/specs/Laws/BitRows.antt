@@ -1,11 +1,12 @@
 -- Sets as bits of two words, and rows of them.
-use Rattle.std.specs.Prelude.{ℕ, ◌%◌, ◌<◌, max, ◌+◌, ◌*◌, ◌/◌, ◌^◌, suc, ◌-◌, ◌≤◌, zero, ◌≡◌, refl, false, List, ◌≢◌, eqb, ltb, length, set, replicate}
-use Rattle.std.proofs.Common.{ap, ◌∙◌, ap₂, sym, pow_pos, pow-suc, arith, add-one, eq-eqb, ne_eqb, ltb-true, ltb-false, lt-ltb}
-use Rattle.std.specs.Int.Bits.{bit_or, or_step}
-use Rattle.std.proofs.lemmas.Nat.{or_shr}
+use Rattle.std.specs.Prelude.{ℕ, ◌%◌, ◌<◌, max, ◌+◌, ◌*◌, ◌^◌, ◌-◌, ◌≤◌, ◌≡◌, refl, false, List, ◌≢◌, eqb, ltb, length, set, replicate}
+use Rattle.std.proofs.Common.{ap, ◌∙◌, sym, arith, add-one, eq-eqb, ne_eqb, ltb-true, ltb-false, lt-ltb}
+use Rattle.std.specs.Int.{bit_at}
+use Rattle.std.specs.Int.Bits.{bit_or}
+use Rattle.std.proofs.lemmas.Nat.Bits.{bit_at-zero, bit_at_or, bit_at-lt, bit_at-pow_same, bit_at-pow_other}
 use Rattle.std.proofs.Math.ListN.{length-set}
 use Rattle.std.proofs.Math.Seq.{set_out, get_or-set_same, get_or-set_other}
-use Rattle.std.proofs.Math.Nat.{div-eq_of_lt, mul-div-mul_right, two-pow-succ, pow-le-pow_right}
+use Rattle.std.proofs.Math.Nat.{pow-le-pow_right}
 use Rattle.matter.specs.LedgerSteps.{bit, per_word, put_members, with_object, with_process, members_in, is_member, no_members, merged_of, only_member, selves}
 use Rattle.labels.specs.Decisions.{◌or◌, at}
 use Rattle.labels.proofs.Laws.Decisions.{by_eq, by_test}
@@ -16,7 +17,7 @@ use Rattle.opens.specs.Opens.{most_objects}
 -- Bits: of none, of a union, and of one number.
 bit_none : (c : ℕ) → bit 0 c ≡ false
 unfolding bit
-bit_none c = ap (λ (n : ℕ). eqb (n % 2) 1) (div-eq_of_lt (pow_pos c))
+bit_none c = ap (λ (n : ℕ). eqb n 1) (bit_at-zero c)
 
 or_bit : (x y : ℕ) → x < 2 → y < 2 → eqb (max x y) 1 ≡ (eqb x 1 or eqb y 1)
 unfolding ◌or◌
@@ -25,39 +26,9 @@ or_bit x y h k =
     (λ p. by_eq y 0 (λ q. rw (p, q)) (λ q. let e : y ≡ 1 = omega arith in rw (p, e)))
     (λ p. let d : x ≡ 1 = omega arith in by_eq y 0 (λ q. rw (d, q)) (λ q. let e : y ≡ 1 = omega arith in rw (d, e)))
 
-low_bit : (z m : ℕ) → m < 2 → (z * 2 + m) % 2 ≡ m
-low_bit z m h = omega arith
-
-below : (x : ℕ) → x % 2 < 2
-below x = omega arith
-
-max_below : (x y : ℕ) → x < 2 → y < 2 → max x y < 2
-max_below x y h k = omega arith
-
 bit_or_law : (v w c : ℕ) → bit (bit_or v w) c ≡ (bit v c or bit w c)
 unfolding bit
-bit_or_law v w c =
-    ap (λ (x : ℕ). eqb (x % 2) 1) (or_shr v w c ∙ or_step (v / 2 ^ c) (w / 2 ^ c))
-    ∙ ap (λ (x : ℕ). eqb x 1) (low_bit (bit_or (v / 2 ^ c / 2) (w / 2 ^ c / 2)) _ (max_below _ _ (below (v / 2 ^ c)) (below (w / 2 ^ c))))
-    ∙ or_bit (v / 2 ^ c % 2) (w / 2 ^ c % 2) (below (v / 2 ^ c)) (below (w / 2 ^ c))
-
-two_positive : 0 < 2
-two_positive = omega arith
-
-halved : (x c : ℕ) → 2 ^ suc x / 2 ^ suc c ≡ 2 ^ x / 2 ^ c
-halved x c = ap₂ (λ (a b : ℕ). a / b) (pow-suc 2 x) (pow-suc 2 c) ∙ mul-div-mul_right (2 ^ x) (2 ^ c) two_positive
-
-even : (n : ℕ) → (n + n) / 1 % 2 ≡ 0
-even n = omega arith
-
-small : (n : ℕ) → 0 < n → 1 / (n + n) ≡ 0
-small n h = let b : 1 < n + n = omega arith in div-eq_of_lt b
-
-both_suc : (x c : ℕ) → eqb x c ≡ eqb (suc x) (suc c)
-both_suc x c =
-    by_eq x c
-    (λ p. eq-eqb x c p ∙ sym (eq-eqb (suc x) (suc c) (ap suc p)))
-    (λ n. ne_eqb x c n ∙ sym (ne_eqb (suc x) (suc c) (omega arith)))
+bit_or_law v w c = ap (λ (x : ℕ). eqb x 1) (bit_at_or v w c) ∙ or_bit (bit_at v c) (bit_at w c) (bit_at-lt v c) (bit_at-lt w c)
 
 less_same : (x c : ℕ) → per_word ≤ x → per_word ≤ c → eqb (x - per_word) (c - per_word) ≡ eqb x c
 less_same x c h k =
@@ -67,27 +38,17 @@ less_same x c h k =
 
 bit_of_power : (x c : ℕ) → bit (2 ^ x) c ≡ eqb x c
 unfolding bit
-bit_of_power zero zero = refl
-bit_of_power zero (suc c) =
-    ap (λ (n : ℕ). eqb (1 / n % 2) 1) (two-pow-succ c)
-    ∙ ap (λ (n : ℕ). eqb (n % 2) 1) (small (2 ^ c) (pow_pos c))
-    ∙ sym (ne_eqb 0 (suc c) (omega arith))
-bit_of_power (suc x) zero =
-    ap (λ (n : ℕ). eqb (n / 1 % 2) 1) (two-pow-succ x)
-    ∙ ap (λ (n : ℕ). eqb n 1) (even (2 ^ x))
-    ∙ sym (ne_eqb (suc x) 0 (omega arith))
-bit_of_power (suc x) (suc c) =
-    ap (λ (n : ℕ). eqb (n % 2) 1) (halved x c) ∙ bit_of_power x c ∙ both_suc x c
+bit_of_power x c =
+    by_eq x c
+    (λ e. rw e (ap (λ (n : ℕ). eqb n 1) (bit_at-pow_same c) ∙ sym (eq-eqb c c refl)))
+    (λ d. ap (λ (n : ℕ). eqb n 1) (bit_at-pow_other x c (λ e. d (sym e))) ∙ sym (ne_eqb x c d))
 
 -- the bit of a number below 64 is in its word
-half_word : (c : ℕ) → c < per_word → 2 ^ c ≤ 2 ^ 63
-half_word c h = let b : c ≤ 63 = omega arith in pow-le-pow_right two_positive b
-
-whole_word : (n : ℕ) → n ≤ 9223372036854775808 → 1 * n % 18446744073709551616 ≡ n
-whole_word n h = omega arith
-
 pub power_fits : (c : ℕ) → c < per_word → 1 * 2 ^ c % 18446744073709551616 ≡ 2 ^ c
-power_fits c h = whole_word (2 ^ c) (half_word c h)
+power_fits c h =
+    let b : c ≤ 63 = omega arith in
+    let p : 2 ^ c ≤ 2 ^ 63 = pow-le-pow_right (omega arith) b in
+    omega arith
 
 -- Rows that are none.
 pub put_out : (words : List ℕ) (r : ℕ) (s : Members) → length words ≤ 2 * r → put_members words r s ≡ words

@@ -2,8 +2,8 @@
 use Rattle.std.specs.Prelude.{ℕ, ◌+◌, ◌*◌, ◌<◌, zero, suc, ◌≤◌, min, ◌≡◌, refl, List, [], ◌∷◌, true, Bool, false, cond, length, set, replicate, ltb, eqb}
 use Rattle.std.proofs.Math.Path.{fun_ext}
 use Rattle.std.proofs.Common.{sym, ap, ◌∙◌, length-set, get_or-set_same, get_or-set_other, arith, eq-eqb, ne_eqb, lt-ltb, ltb-true, ltb-false, le-ltb}
-use Rattle.std.proofs.lemmas.List.{length-replicate, get_or-replicate}
-use Rattle.std.proofs.Math.ListN.{get_or-eq_default}
+use Rattle.std.proofs.lemmas.List.{length-replicate}
+use Rattle.rules.proofs.Sound.{at_zeros}
 use Rattle.opens.specs.Opens.{most_objects, most_processes}
 use Rattle.matter.specs.declared.Ledger.{Ledger}
 use Rattle.rules.specs.Matter.{Set, put, Account, assign, union, process_gains, object_gains, nothing, enter, takes, gives, carry, carry_by, after_entry}
@@ -239,15 +239,10 @@ followed l (x ∷ xs) z (more h r) =
     ∙ ap (λ (a : Account). account a xs) (stepped l x.call x.accepted z h)
 
 -- The start.
-no_words : (n i : ℕ) → at (replicate n 0) i ≡ 0
-no_words n i =
-    by_test (ltb i n) (λ b. get_or-replicate n i 0 0 (ltb-true i n b))
-    (λ b. let h = ltb-false i n b in get_or-eq_default (replicate n 0) 0 (rw (length-replicate {A = ℕ} n 0) h))
-
 no_row : (n r : ℕ) → members_in (replicate n 0) r ≡ no_members
 unfolding members_in no_members
-no_row n r = let low = no_words n (2 * r) in
-    let high = no_words n (2 * r + 1) in
+no_row n r = let low = at_zeros n (2 * r) in
+    let high = at_zeros n (2 * r + 1) in
     λ i. record { low = low i; high = high i }
 
 none_held : (n r c : ℕ) → held_by (replicate n 0) r c ≡ false

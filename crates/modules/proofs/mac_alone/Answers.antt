@@ -14,9 +14,6 @@ pub returns-in-SendSignal : goal.returns-in-SendSignal
 unfolding mac_alone
 returns-in-SendSignal c = rw (c.in-SendSignal.is, c.mac_signal.ensures)
 
-pub returns-in-SetLevel : goal.returns-in-SetLevel
-returns-in-SetLevel c = rw (c.in-SetLevel.is, c.mac_set_level.ensures)
-
 pub returns-in-Terminate : goal.returns-in-Terminate
 unfolding mac_alone
 returns-in-Terminate c = rw c.in-Terminate.is

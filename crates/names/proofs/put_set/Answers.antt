@@ -1,24 +1,19 @@
 -- Nothing, one text, or a blank and the letters.
-use mathlib.Core.List.{[], ◌∷◌}
 use borrow.Author.Tests.{eq-eqb, ne_eqb}
-use Rattle.rules.specs.Text.{ascii}
-use Rattle.text.specs.Laws.Stores.{end, ◌▸◌, stores}
-use Rattle.names.specs.Words.{letters_of, set_word}
+use Rattle.text.specs.Laws.Puts.{◌▹◌}
+use Rattle.names.specs.Words.{set_word}
 use Rattle.names.proofs.put_set.Goals as goal
 
 pub returns-then-s-eq0 : goal.returns-then-s-eq0
 unfolding set_word
-returns-then-s-eq0 c =
-    rw (eq-eqb _ 0 c.if-s-eq0.true) c.put_nothing.ensures
+returns-then-s-eq0 c = rw (eq-eqb _ 0 c.if-s-eq0.true) c.nothing.ensures
 
 pub returns-then-s-eq-ALL_CATEGORIES : goal.returns-then-s-eq-ALL_CATEGORIES
 unfolding set_word
 returns-then-s-eq-ALL_CATEGORIES c =
-    rw (ne_eqb _ 0 c.if-s-eq0.false, eq-eqb _ 255 c.if-s-eq-ALL_CATEGORIES.true) c.put_text.ensures
+    rw (ne_eqb _ 0 c.if-s-eq0.false, eq-eqb _ 255 c.if-s-eq-ALL_CATEGORIES.true) c.text.ensures
 
 pub returns : goal.returns
 unfolding set_word
 returns c =
-    let a = c.args in
-    rw (ne_eqb _ 0 c.if-s-eq0.false, ne_eqb _ 255 c.if-s-eq-ALL_CATEGORIES.false)
-    (stores a.out.now a.place (ascii " ") (letters_of a.s ∷ []) (c.put_text-p.ensures ▸ c.put_letters.ensures ▸ end))
+    rw (ne_eqb _ 0 c.if-s-eq0.false, ne_eqb _ 255 c.if-s-eq-ALL_CATEGORIES.false) (c.text-2.ensures ▹ c.put_letters.ensures)

@@ -1,5 +1,4 @@
 -- One store in each row, which together are the opens without those on object t.
-use Rattle.std.specs.Prelude.{◌≡◌}
 use Rattle.std.proofs.Common.{rules, ◌∙◌, arith}
 use Rattle.opens.specs.Laws.Loops.{puts_none, puts_more, column_cleared, no_object_closed}
 use Rattle.opens.proofs.close_object.Goals as goal

@@ -1,5 +1,4 @@
 -- The part of row p that the list has is filled with zeros.
-use Rattle.std.specs.Prelude.{◌≡◌, replicate, length}
 use Rattle.std.proofs.Common.{rules}
 use Rattle.opens.specs.Laws.Loops.{row_zeroed}
 use Rattle.opens.proofs.close_process.Goals as goal

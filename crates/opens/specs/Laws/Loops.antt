@@ -1,5 +1,6 @@
 -- The loops make what the definitions say.
-use Rattle.std.specs.Prelude.{ℕ, suc, ◌+◌, ◌-◌, ◌*◌, min, zero, ◌<◌, ◌/◌, ◌%◌, ◌≤◌, ◌≡◌, refl, List, [], ◌∷◌, ◌++◌, ◌≢◌, cond, length, set, eqb, ltb, take, drop, replicate}
+use Rattle.std.specs.Prelude.{ℕ, suc, ◌+◌, ◌-◌, ◌*◌, min, zero, ◌<◌, ◌/◌, ◌%◌, ◌≤◌, ◌≡◌, refl, List, [], ◌∷◌, ◌++◌, ◌≢◌, cond}
+use Rattle.std.specs.Prelude.{length, set, eqb, ltb, take, drop, replicate}
 use Rattle.std.specs.List.{CopiedTo, SameBelow, SameFrom}
 use Rattle.std.proofs.Common.{◌∙◌, ap, sym, length-set, get_or-set_other, get_or-set_same, ext_get_or, arith, add-one, eq-eqb, ne_eqb, length-take-le}
 use Rattle.std.proofs.Common.{length-drop, ltb-true, ltb-false}

@@ -1,6 +1,7 @@
 -- Where a question up to the fifth refuses, its number is the call's; else the later questions give it.
-use Prim.Native.Nat.{ℕ}
-use mathlib.Core.Path.{◌≡◌, ◌∙◌, ap}
+use Rattle.std.specs.Prelude.{ℕ, ◌≡◌}
+use Rattle.std.proofs.Common.{refl, ◌∙◌, ap}
+use Rattle.answers.proofs.Laws.Questions.{no_refusal_is_0}
 use Rattle.state.specs.declared.Call.{Call}
 use Rattle.rules.specs.declared.Action.{Action}
 use Rattle.rules.specs.declared.Runs.{Runs}
@@ -15,14 +16,14 @@ use Rattle.questions.proofs.outcome_in.Goals as goal
 asked_of : (k : Action) (v : View) (c : Call) (r : Runs) (n : ℕ) → r ≡ runs_of v → n ≡ process_number k r c 0 → n ≡ process_number k (runs_of v) c 0
 asked_of k v c r n e h = h ∙ ap (λ (x : Runs). process_number k x c 0) e
 
-pub returns-then-number-ne0 : goal.returns-then-number-ne0
-returns-then-number-ne0 c =
+pub returns-in-Err : goal.returns-in-Err
+returns-in-Err c =
     let a = c.args in
-    let n = asked_of (action_of a.c.request) a.v a.c _ _ c.runs_of.ensures c.process_number-number.ensures in
-    refused_first a.v a.c _ n c.if-number-ne0.true
+    let n = c.number.ensures in
+    refused_first a.v a.c _ (asked_of (action_of a.c.request) a.v a.c _ _ c.runs_of.ensures (n ∙ c.in-Err.ensures 0)) (no_refusal_is_0 _ n)
 
 pub returns : goal.returns
 returns c =
     let a = c.args in
-    let n = asked_of (action_of a.c.request) a.v a.c _ _ c.runs_of.ensures c.process_number-number.ensures in
-    outcome_later a.v a.c _ _ _ c.request_of-q.ensures n c.if-number-ne0.false c.outcome_later.ensures
+    let n = asked_of (action_of a.c.request) a.v a.c _ _ c.runs_of.ensures (c.in_default.ensures 0) in
+    outcome_later a.v a.c _ _ _ c.request_of-q.ensures n refl c.outcome_later.ensures

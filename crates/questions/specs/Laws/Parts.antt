@@ -1,5 +1,5 @@
 -- The parts of the ordered questions are the whole, and where they stop is what a call comes to.
-use Rattle.std.specs.Prelude.{ℕ, suc, ◌<◌, ◌≤◌, ◌≡◌, refl, Bool, true, false, ◌≢◌, eqb}
+use Rattle.std.specs.Prelude.{ℕ, suc, ◌<◌, ◌≤◌, ◌≡◌, refl, Bool, true, false, ◌≢◌, cond, eqb}
 use Rattle.std.proofs.Common.{◌∙◌, ap, sym, ne_eqb, le-leb, le-ltb}
 use Rattle.std.proofs.lemmas.Bool.{lt-leb}
 use Rattle.state.specs.declared.Call.{Call}
@@ -12,10 +12,10 @@ use Rattle.answers.specs.declared.Answers.{Answers}
 use Rattle.rules.specs.Questions.{runs_of, number_by, in_range}
 use Rattle.questions.specs.Parts.{late_number, object_number, process_number, outcome_by, later_number, outcome_in}
 use Rattle.labels.specs.Decisions.{ask, ◌or◌, ◌and◌}
-use Rattle.answers.specs.Outcomes.{denies, outcome_of}
+use Rattle.answers.specs.Outcomes.{denies, no_object, outcome_of}
 use Rattle.labels.proofs.Laws.Decisions.{ask_later}
-use Rattle.answers.specs.declared.Outcome.TheVariants.{Refused}
-use Rattle.rules.specs.Requests.{last_request, action_of}
+use Rattle.answers.specs.declared.Outcome.TheVariants.{Accepted, Refused}
+use Rattle.rules.specs.Requests.{last_request, action_of, is_create}
 use Rattle.opens.specs.Opens.{most_processes}
 use Rattle.answers.specs.declared.Outcome.{Outcome}
 
@@ -116,7 +116,23 @@ unfolding process_number ask in_range ◌and◌
 first_is_2 k v c h b =
     rw (le-leb c.request last_request h, le-ltb c.process most_processes b)
 
+-- whatever the later ones are
+pub stops_first : (v : View) (c : Call) (n later : ℕ) → n ≢ 0 → n ≡ process_number (action_of c.request) (runs_of v) c 0
+    → n ≡ process_number (action_of c.request) (runs_of v) c later
+stops_first v c n later h e = e ∙ sym (process_refuses (action_of c.request) v c later (λ z. h (e ∙ z))).1
+
 pub outcome_later : (v : View) (c : Call) (q : Request) (n : ℕ) (o : Outcome) → q ≡ request_in v c
     → n ≡ process_number (action_of c.request) (runs_of v) c 0 → n ≡ 0 → o ≡ outcome_by (later_number q v c) q v c → o ≡ outcome_in v c
 outcome_later v c q n o e p z h =
     h ∙ ap (λ (x : Request). outcome_by (later_number x v c) x v c) e ∙ later_last v c (sym p ∙ z)
+
+-- a call that the last questions accept, and one that they refuse with the number m
+pub accepted_late : (q : Request) (v : View) (c : Call) (n o : ℕ) (a : Answers) → 0 ≡ n → a ≡ answers_by q v c
+    → o ≡ cond (is_create q.action) v.entered no_object → Accepted a o ≡ outcome_by n q v c
+unfolding outcome_by outcome_of ◌and◌
+accepted_late q v c n o a z e g = rw (← z) (λ i. Accepted (e i) (g i))
+
+pub refused_late : (q : Request) (v : View) (c : Call) (n m : ℕ) (a : Answers) → m ≢ 0 → m ≡ n → a ≡ answers_by q v c
+    → outcome_of m a no_object ≡ outcome_by n q v c
+unfolding outcome_by ◌and◌
+refused_late q v c n m a h e g = rw (← e, ne_eqb m 0 h) (ap (λ (x : Answers). outcome_of m x no_object) g)

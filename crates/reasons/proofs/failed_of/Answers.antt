@@ -7,4 +7,5 @@ pub returns : goal.returns
 returns g c =
     let v = c.view_of-v.ensures in
     let a = c.args in
-    failed_found (g.S.FacilityStore.facility a.s.now) a.c _ _ _ _ v (enforced_outcome (g.S.FacilityStore.facility a.s.now) a.c _ _ c.outcome_in-o.ensures v) c.number.ensures c.failed_by.ensures
+    let f = g.S.FacilityStore.facility a.s.now in
+    failed_found f a.c _ _ _ _ v (enforced_outcome f a.c _ _ c.outcome_in-o.ensures v) c.number.ensures c.failed_by.ensures

@@ -2,7 +2,7 @@
 use Prim.Native.Nat.{ℕ, ◌+◌, ◌<◌}
 use mathlib.Core.Path.{◌≡◌, refl, sym, ap, ◌∙◌}
 use mathlib.Core.List.{List, [], ◌∷◌, ◌++◌}
-use lib.ListN.{length, length-append, length-take}
+use lib.ListN.{length, length-append}
 use Rattle.std.specs.Iterator.Adapters.{enumerate_source}
 use Rattle.std.specs.Slice.Iter.{chunks_exact_rest}
 use native.Mathlib.Omega.{arith}
@@ -32,12 +32,11 @@ loop-i-preserved g c =
     let rest = chunks_exact_rest (enumerate_source c.next.new.self) in
     let four : length bytes ≡ 4 = s.0.1.1 ∙ l.invariant.0 in
     let long = ap length s.0.1.0 ∙ length-append bytes rest in
-    let is = c.tell-place.ensures.becomes ∙ ap (after l.f) c.call_at-c.ensures in (
+    let is = c.tell.ensures.becomes ∙ ap (after l.f) c.call_at-c.ensures in (
       s.0.0 ∙ l.invariant.0,
       (let count = s.2 in let bound = l.invariant.1 in omega arith),
-      (let place = c.in_ok-place.ensures in let n = length-take c.tell-place.result c.tell-place.new.out in omega arith),
       ap (λ (f : Facility). run f (calls_of rest)) is ∙ sym (run_four l.f bytes rest four)
-          ∙ ap (λ (q : List ℕ). run l.f (calls_of q)) (sym s.0.1.0) ∙ l.invariant.3,
+          ∙ ap (λ (q : List ℕ). run l.f (calls_of q)) (sym s.0.1.0) ∙ l.invariant.2,
     )
 
 pub returns : goal.returns
@@ -45,5 +44,5 @@ returns g c =
     let l = c.loop-i in
     let rest = chunks_exact_rest (enumerate_source l.i-iterator) in
     let few : length rest < 0 + 4 = let size = l.invariant.0 in let s = c.in-None.ensures.steps.0.1.0 in omega arith in
-    let e : l.f ≡ run c.args.start (calls_of c.args.calls.now) = sym (run_done l.f rest 0 few) ∙ l.invariant.3 in
+    let e : l.f ≡ run c.args.start (calls_of c.args.calls.now) = sym (run_done l.f rest 0 few) ∙ l.invariant.2 in
     search rules

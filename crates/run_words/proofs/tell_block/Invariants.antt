@@ -1,4 +1,4 @@
--- The lines that are stored are within the buffer, and the calls that are left lead to the facility after all.
+-- The calls that are left lead to the facility after all.
 use Prim.Native.Nat.{◌+◌, ◌/◌, ◌≤◌}
 use mathlib.Core.Path.{◌≡◌}
 use lib.ListN.{length}
@@ -13,5 +13,4 @@ invariant-loop-i g l =
     let chunks = enumerate_source l.i-iterator in
     (chunks_exact_size chunks ≡ 4)
     × (enumerate_count l.i-iterator + length (chunks_exact_rest chunks) / 4 ≤ length l.calls / 4)
-    × (l.place ≤ length l.out)
     × (run l.f (calls_of (chunks_exact_rest chunks)) ≡ run l.fn.start (calls_of l.calls))

@@ -2,9 +2,6 @@
 use Rattle.labels.specs.Decisions.{◌or◌}
 use Rattle.setup.proofs.also_allowed.Goals as goal
 
-pub returns-in-Nothing : goal.returns-in-Nothing
-returns-in-Nothing c = rw c.in-Nothing.is
-
 pub returns-in-SetNeedsLevel : goal.returns-in-SetNeedsLevel
 unfolding ◌or◌
 returns-in-SetNeedsLevel c = rw c.in-SetNeedsLevel.is

@@ -1,5 +1,4 @@
 -- By the kind of the record.
-use Rattle.std.specs.Prelude.{◌≢◌}
 use Rattle.std.proofs.Common.{◌∙◌, ap, rules, subst}
 use Rattle.state.specs.declared.Facility.{Facility}
 use Rattle.state.specs.State.{add_object, add_user, blank}

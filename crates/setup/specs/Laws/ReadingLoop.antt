@@ -1,8 +1,10 @@
 -- The loop that reads records is the definition's reading.
 use Rattle.std.specs.Prelude.{ℕ, ◌*◌, ◌-◌, suc, ◌+◌, ◌<◌, zero, ◌≤◌, ◌/◌, ◌%◌, ◌≡◌, refl, ◌≢◌, true, false, drop, length, take}
-use mathlib.Core.List.{List, ◌∷◌, []}
+use mathlib.Core.List.{List, ◌∷◌, [], ◌++◌}
 use Rattle.std.proofs.Common.{◌∙◌, drop-drop, get_or-take, arith, add-one, eq-eqb, ne_eqb, eqb-true, ltb-true, leb-true}
 use Rattle.std.proofs.Math.Path.{ap, sym, subst⁻¹}
+use Rattle.std.proofs.Math.Seq.{take-append_seam, drop-append_seam}
+use Rattle.std.proofs.lemmas.List.{length-append, length-drop}
 use Rattle.rules.specs.declared.SetupRecord.{SetupRecord}
 use Rattle.rules.specs.Setup.{records_of, first_record, enter_all, enter_record, refused_setup, allowed_length, read_setup}
 use Rattle.state.specs.declared.Facility.{Facility}
@@ -135,3 +137,39 @@ refused_length_law s h = rw h
 pub allowed_records : (s : List ℕ) → allowed_length (length s) ≡ true → enter_all [] (blank all_off) (records_of (length s / 8 % 65536) s) ≡ read_setup s
 unfolding read_setup
 allowed_records s h = rw (h, few_records (length s) h)
+
+-- The records as chunks of eight bytes: chunk k, and the bytes t behind it.
+module _ (s x t : List ℕ) (k : ℕ) (e : drop (k * 8) s ≡ x ++ t) (n : length x ≡ 8) where
+  pub chunk_first : first_record x ≡ first_record (drop (k * 8) s)
+  chunk_first =
+      ap first_record (sym (take-append_seam x t) ∙ ap (λ (m : ℕ). take m (x ++ t)) n) ∙ first_eight (x ++ t) ∙ ap first_record (sym e)
+
+  pub chunk_rest : t ≡ drop ((k + 1) * 8) s
+  chunk_rest =
+      let d : k * 8 + 8 ≡ (k + 1) * 8 = omega arith in
+      sym (drop-append_seam x t) ∙ ap (λ (m : ℕ). drop m (x ++ t)) n ∙ ap (drop 8) (sym e) ∙ drop-drop 8 (k * 8) s ∙ ap (λ (m : ℕ). drop m s) d
+
+  pub chunk_within : k < length s / 8
+  chunk_within =
+      let l : length (drop (k * 8) s) ≡ 8 + length t = ap length e ∙ length-append x t ∙ ap (λ (m : ℕ). m + length t) n in
+      let d : length (drop (k * 8) s) ≡ length s - k * 8 = length-drop (k * 8) s in
+      omega arith
+
+-- fewer than eight bytes are left: there is no other chunk
+pub no_chunk : (s t : List ℕ) (k : ℕ) → t ≡ drop (k * 8) s → length t < 8 → length s / 8 ≤ k
+no_chunk s t k e h =
+    let d : length t ≡ length s - k * 8 = ap length e ∙ length-drop (k * 8) s in
+    omega arith
+
+-- an allowed length is one of 1 to 145 records
+pub few_whole_records : (n : ℕ) → allowed_length n ≡ true → (1 ≤ n / 8) × (n / 8 < 65536)
+unfolding allowed_length
+few_whole_records n h =
+    let b : n ≤ 1160 = leb-true _ _ (and_r _ _ (and_r _ _ h)) in
+    let w : n % 8 ≡ 0 = eqb-true _ _ (and_l _ _ h) in
+    let l : 0 < n = ltb-true _ _ (and_l _ _ (and_r _ _ h)) in
+    (omega arith, omega arith)
+
+pub whole_records : (s : List ℕ) → allowed_length (length s) ≡ true → enter_all [] (blank all_off) (records_of (length s / 8) s) ≡ read_setup s
+unfolding read_setup
+whole_records s h = rw h

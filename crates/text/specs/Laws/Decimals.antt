@@ -1,17 +1,10 @@
 -- Decimals: how many digits a number has at most.
-use Rattle.std.specs.Prelude.{ℕ, suc, ◌*◌, ◌^◌, zero, ◌<◌, ◌+◌, ◌%◌, ◌/◌, ◌≤◌, ◌-◌, ◌≡◌, refl, true, false, List, [], ◌∷◌, ◌++◌, ltb, length}
+use Rattle.std.specs.Prelude.{ℕ, suc, ◌^◌, zero, ◌<◌, ◌+◌, ◌%◌, ◌/◌, ◌≤◌, ◌-◌, ◌≡◌, refl, true, false, List, [], ◌∷◌, ◌++◌, ltb, length}
 use Rattle.std.proofs.Common.{ap, ◌∙◌, subst, length-append, arith, lt-ltb, le-ltb}
-use Rattle.std.proofs.Math.Numerals.{unary_clauses}
+use Rattle.std.proofs.Math.Nat.{one-le-pow, pow-suc}
 use Rattle.io.specs.Digits.{hex_digit_ascii, last_digits, IsDigitCount}
 use Rattle.rules.specs.Lines.{decimal_in, decimal, blank, field}
 use Rattle.labels.proofs.Laws.Decisions.{by_test}
-
-power : (k : ℕ) → 10 ^ suc k ≡ 10 * 10 ^ k
-power k = simp unary_clauses (omega arith)
-
-positive : (k : ℕ) → 0 < 10 ^ k
-positive zero = omega arith
-positive (suc k) = let e = power k in let h = positive k in omega arith
 
 one_digit : (n : ℕ) → n < 10 → hex_digit_ascii (n % 10) ≡ 48 + n
 one_digit n h =
@@ -26,14 +19,14 @@ last_digit n = let t : ltb (n % 10) 10 ≡ true = lt-ltb (n % 10) 10 (omega arit
 fewest_in : (k most n : ℕ) → n ≤ most → n < 10 ^ suc k → (0 < k → 10 ^ k ≤ n) → last_digits 10 (suc k) n ≡ decimal_in (suc most) n
 unfolding decimal_in
 fewest_in zero most n h u l =
-    let b : n < 10 = let e = power 0 in omega arith in
+    let b : n < 10 = let e = pow-suc 10 0 in omega arith in
     rw (lt-ltb n 10 b, decimal_in) (ap (λ (d : ℕ). d ∷ []) (one_digit n b))
-fewest_in (suc k) zero n h u l = let q = l (omega arith) in let p = positive (suc k) in absurd (omega arith)
+fewest_in (suc k) zero n h u l = let q = l (omega arith) in let p = one-le-pow (suc k) 10 (omega arith) in absurd (omega arith)
 fewest_in (suc k) (suc most) n h u l =
     let q = l (omega arith) in
-    let e = power k in
-    let p = positive k in
-    let d = power (suc k) in
+    let e = pow-suc 10 k in
+    let p = one-le-pow k 10 (omega arith) in
+    let d = pow-suc 10 (suc k) in
     let b : ltb n 10 ≡ false = le-ltb n 10 (omega arith) in
     rw (b, decimal_in) (ap (λ (x : List ℕ). x ++ (hex_digit_ascii (n % 10) ∷ [])) (fewest_in k most (n / 10) (omega arith) (omega arith) (λ z. omega arith))
     ∙ ap (λ (x : ℕ). decimal_in (suc most) (n / 10) ++ (x ∷ [])) (last_digit n))
@@ -48,20 +41,20 @@ digits_most : (k most n : ℕ) → n < 10 ^ suc k → length (decimal_in most n)
 unfolding decimal_in
 digits_most k zero n h = omega arith
 digits_most zero (suc most) n h =
-    let e = power 0 in
+    let e = pow-suc 10 0 in
     let b : n < 10 = omega arith in
     rw (lt-ltb n 10 b, decimal_in, length) (omega arith)
 digits_most (suc k) (suc most) n h =
     by_test (ltb n 10)
     (λ t. rw (t, decimal_in, length) (omega arith))
     (λ t.
-    let e = power (suc k) in
+    let e = pow-suc 10 (suc k) in
     let d = digits_most k most (n / 10) (omega arith) in
     rw (t, decimal_in, length) (simp length-append (omega arith)))
 
 pub byte_short : (n : ℕ) → n < 256 → length (field n) ≤ 4
 byte_short n h =
-    let d = digits_most 2 (suc n) n (let e = power 2 in let f = power 1 in let g = power 0 in omega arith) in
+    let d = digits_most 2 (suc n) n (let e = pow-suc 10 2 in let f = pow-suc 10 1 in let g = pow-suc 10 0 in omega arith) in
     let e = length-append (decimal n) (blank ∷ []) in
     omega arith
 
@@ -73,4 +66,4 @@ index_short n h =
 
 pub level_short : (n : ℕ) → n < 256 → length (decimal n) ≤ 3
 level_short n h =
-    digits_most 2 (suc n) n (let e = power 2 in let f = power 1 in let g = power 0 in omega arith)
+    digits_most 2 (suc n) n (let e = pow-suc 10 2 in let f = pow-suc 10 1 in let g = pow-suc 10 0 in omega arith)

@@ -1,13 +1,12 @@
 -- Each sign is said in its way, and any other byte is itself.
-use mathlib.Core.List.{[], ◌∷◌}
-use Rattle.text.specs.Laws.Stored.{as_text}
+use Rattle.text.specs.Laws.Puts.{put_as}
 use Rattle.words.specs.Patterns.{said}
 use Rattle.words.proofs.Patterns.{said_itself}
 use Rattle.words.proofs.put_said.Goals as goal
 
 pub returns-in-35 : goal.returns-in-35
 unfolding said
-returns-in-35 c = rw c.in-35.is c.put_small.ensures
+returns-in-35 c = rw c.in-35.is c.small.ensures
 
 pub returns-in-36 : goal.returns-in-36
 unfolding said
@@ -61,7 +60,7 @@ pub returns-in_default : goal.returns-in_default
 returns-in_default c =
     let a = c.args in
     let m = c.in_default.in_default-own.rest in
-    as_text a.out.now _ (a.x ∷ []) _ a.place _
+    put_as
     (said_itself a.x a.n m.0.0.0.0.0.0.0.0.0.0.0.0.1 m.0.0.0.0.0.0.0.0.0.0.0.1 m.0.0.0.0.0.0.0.0.0.0.1
     m.0.0.0.0.0.0.0.0.0.1 m.0.0.0.0.0.0.0.0.1 m.0.0.0.0.0.0.0.1 m.0.0.0.0.0.0.1 m.0.0.0.0.0.1
-    m.0.0.0.0.1 m.0.0.0.1 m.0.0.1 m.0.1 m.1) c.put_text.ensures
+    m.0.0.0.0.1 m.0.0.0.1 m.0.0.1 m.0.1 m.1) c.text.ensures

@@ -1,5 +1,5 @@
 -- A byte is a sign where the tests say so.
-use borrow.Author.Tests.{eq-eqb, ne_eqb}
+use borrow.Author.Tests.{ne_eqb}
 use Rattle.labels.specs.Decisions.{◌and◌, ◌or◌}
 use Rattle.words.proofs.signs.Goals as goal
 
@@ -10,6 +10,3 @@ returns-then-low-high c = rw (ne_eqb _ 42 c.if-x-eq42.false, c.if-low-high.true)
 pub returns : goal.returns
 unfolding ◌and◌ ◌or◌
 returns c = rw (ne_eqb _ 42 c.if-x-eq42.false, c.if-low-high.false)
-
-pub returns-then-x-eq42 : goal.returns-then-x-eq42
-returns-then-x-eq42 c = rw (eq-eqb _ 42 c.if-x-eq42.true)

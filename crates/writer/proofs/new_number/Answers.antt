@@ -1,8 +1,7 @@
 -- Each live object is one more.
 use Rattle.std.specs.Prelude.{◌≡◌}
-use Rattle.std.proofs.Common.{◌∙◌, ap, arith, rules, sym}
+use Rattle.std.proofs.Common.{◌∙◌, ap, arith, sym}
 use Rattle.labels.specs.Decisions.{at}
-use Rattle.rules.specs.Setup.{new_number}
 use Rattle.rules.proofs.Parents.{new_most}
 use Rattle.state.specs.declared.Object.{Object}
 use Rattle.state.specs.State.{object_in, objects_in}
@@ -29,9 +28,3 @@ loop-k-preserved g c =
       | then-object-eq1 w ↦ w.n-is ∙ number_live x l.k l.n l.invariant (sym e ∙ w.if-object-eq1.true)
       | else-object-eq1 w ↦ w.n-is ∙ number_gone x l.k l.n l.invariant (λ z. w.if-object-eq1.false (e ∙ z))
     ]
-
-pub returns : goal.returns
-returns g c =
-    let l = c.loop-k in
-    let e : l.k ≡ c.args.t = search rules in
-    l.invariant ∙ ap (new_number (objects_in (g.S.FacilityStore.facility c.args.s.now))) e

@@ -1,10 +1,10 @@
 -- Each live object's record is stored behind those before it.
 use Rattle.std.specs.Prelude.{◌<◌, List}
-use Rattle.std.proofs.Common.{◌∙◌, ap, rules, subst}
+use Rattle.std.proofs.Common.{ap, rules, subst}
 use Rattle.rules.specs.declared.SetupRecord.{SetupRecord}
 use Rattle.state.specs.State.{objects_in}
 use Rattle.writer.specs.Writing.{Stored, live_record}
-use Rattle.writer.proofs.WritingLoop.{section_begins, section_place, section_goes_on, section_length, section_ends}
+use Rattle.writer.proofs.WritingLoop.{section_begins, section_place, section_goes_on}
 use Rattle.writer.proofs.put_objects.Goals as goal
 
 pub loop-t-init : goal.loop-t-init
@@ -22,9 +22,3 @@ loop-t-preserved g c =
     section_goes_on l.invariant (search rules)
     (subst (λ (rs : List SetupRecord). Stored l.out l.place rs c.put_live-place.new.out c.put_live-place.result)
     (ap (live_record x) c.object.ensures) c.put_live-place.ensures)
-
-pub shape_of-out : goal.shape_of-out
-shape_of-out g c = section_length c.loop-t.invariant
-
-pub returns : goal.returns
-returns g c = section_ends c.loop-t.invariant (search rules)

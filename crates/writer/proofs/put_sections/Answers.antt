@@ -1,16 +1,12 @@
 -- The sections stand one behind the other.
-use Rattle.std.specs.Prelude.{[], ◌∷◌, ◌<◌, ◌≤◌}
-use Rattle.std.proofs.Common.{◌∙◌, ap, arith, rules, subst}
+use Rattle.std.specs.Prelude.{[], ◌∷◌}
+use Rattle.std.proofs.Common.{◌∙◌, ap, subst}
 use Rattle.rules.specs.declared.SetupRecord.{SetupRecord}
-use Rattle.rules.specs.Setup.{switches_record, user_record, every, setup_records}
-use Rattle.state.specs.State.{objects_in, switches_of, user_in, users_in}
+use Rattle.rules.specs.Setup.{switches_record, setup_records}
+use Rattle.state.specs.State.{objects_in, switches_of, users_in}
 use Rattle.writer.specs.Writing.{Stored, user_records, object_records}
 use Rattle.writer.proofs.WritingLoop.{nothing, then}
 use Rattle.writer.proofs.put_sections.Goals as goal
-
-pub put_objects-requires : goal.put_objects-requires
-put_objects-requires g c =
-    omega (arith, c.put_record-users.ensures.place, c.put_users-objects.ensures.within)
 
 pub returns : goal.returns
 unfolding setup_records

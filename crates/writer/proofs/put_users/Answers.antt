@@ -5,7 +5,7 @@ use Rattle.rules.specs.declared.SetupRecord.{SetupRecord}
 use Rattle.rules.specs.Setup.{every, user_record}
 use Rattle.state.specs.State.{user_in, users_in}
 use Rattle.writer.specs.Writing.{Stored}
-use Rattle.writer.proofs.WritingLoop.{section_begins, section_place, section_goes_on, section_length, section_ends, section_most}
+use Rattle.writer.proofs.WritingLoop.{section_begins, section_place, section_goes_on, section_ends, section_most}
 use Rattle.writer.proofs.put_users.Goals as goal
 
 pub loop-u-init : goal.loop-u-init
@@ -22,9 +22,6 @@ loop-u-preserved g c =
     let e = c.user_record.ensures ∙ ap user_record c.user.ensures in
     section_goes_on l.invariant (search rules)
     (subst (λ (r : SetupRecord). Stored l.out l.place (r ∷ []) c.put_record-place.new.out c.put_record-place.result) e c.put_record-place.ensures)
-
-pub shape_of-out : goal.shape_of-out
-shape_of-out g c = section_length c.loop-u.invariant
 
 pub returns : goal.returns
 returns g c =

@@ -1,5 +1,5 @@
 -- Each request is its change.
-use Rattle.std.specs.Prelude.{ℕ, ◌≡◌}
+use Rattle.std.specs.Prelude.{ℕ}
 use Rattle.std.proofs.Common.{rules, sym, ◌∙◌, ap}
 use Rattle.calls.proofs.Created.{inside, outside}
 use Rattle.calls.proofs.Seen.{known_moved}

@@ -1,11 +1,9 @@
 -- What failed, in words, with the flag's source.
-use Rattle.text.specs.Laws.Stored.{as_text}
+use Rattle.text.specs.Laws.Puts.{put_as}
 use Rattle.hvozdalka.proofs.Why.{text_found}
 use Rattle.hvozdalka.proofs.refused.put_why.Goals as goal
 
 pub returns : goal.returns
 returns g c =
     let a = c.args in
-    as_text a.out.now _ _ _ 0 _
-    (text_found (g.S.FacilityStore.facility a.s.now) a.c _ _ c.failed_of-w.ensures c.source-source.ensures)
-    c.put_failed.ensures
+    put_as (text_found (g.S.FacilityStore.facility a.s.now) a.c _ _ c.failed_of-w.ensures c.source-source.ensures) c.put_failed.ensures

@@ -1,5 +1,9 @@
 -- Of the call that C hands in.
+use mathlib.Core.Path.{◌∙◌}
+use Rattle.text.specs.Laws.Puts.{put_from}
 use Rattle.hvozdalka.proofs.texts.hv_put_words.Goals as goal
 
-pub returns : goal.returns
-returns c = let t = c.tell-length.ensures in rw (← c.from.ensures) (record { stored = t.stored; facility_value = t.becomes })
+pub returns-clause-stored : goal.returns-clause-stored
+returns-clause-stored c =
+    let p = put_from c.new-line.ensures c.tell.ensures.stored in
+    rw (← c.from.ensures) (p.stored.0, c.place.ensures ∙ p.stored.1)

@@ -9,7 +9,7 @@ returns c =
     λ j. record {
       live = c.byte.ensures j;
       kind = c.byte-2.ensures j;
-      label = c.label_in.ensures j;
+      label = (rw (c.of.ensures, c.of-2.ensures) at c.at.ensures) j;
       category = c.byte-3.ensures j;
       datatype = c.byte-4.ensures j;
       flags = c.byte-5.ensures j;

@@ -9,9 +9,9 @@ returns c =
     λ j. record {
       running = c.byte.ensures j;
       owner = c.byte-2.ensures j;
-      current = c.label_in.ensures j;
-      readmark = c.label_in-2.ensures j;
-      writemark = c.label_in-3.ensures j;
+      current = (rw (c.of.ensures, c.of-2.ensures) at c.at.ensures) j;
+      readmark = (rw (c.of-3.ensures, c.of-4.ensures) at c.at-2.ensures) j;
+      writemark = (rw (c.of-5.ensures, c.of-6.ensures) at c.at-3.ensures) j;
       automatic = c.byte-3.ensures j;
       moves = c.byte-4.ensures j;
     }

@@ -5,4 +5,4 @@ use Rattle.in_place.proofs.bytes.ArrayU8SIZEFacilityStore.user.Goals as goal
 
 pub returns : goal.returns
 unfolding facility_at user_in
-returns c = λ j. record { clearance = c.label_in.ensures j; role = c.byte.ensures j; trusted = c.byte-2.ensures j }
+returns c = λ j. record { clearance = (rw (c.of.ensures, c.of-2.ensures) at c.at.ensures) j; role = c.byte.ensures j; trusted = c.byte-2.ensures j }

@@ -1,5 +1,4 @@
 -- Each change of the opens is its method.
-use Rattle.std.proofs.Common.{rules}
 use Rattle.state.specs.State.{open_by}
 use Rattle.in_place.proofs.store.FacilityStore.change_opens.Goals as goal
 

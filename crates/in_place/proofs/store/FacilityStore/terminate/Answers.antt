@@ -1,5 +1,4 @@
 -- The process is put, and then its marks go.
-use Rattle.std.specs.Prelude.{◌≡◌}
 use Rattle.opens.specs.Opens.{close_process}
 use Rattle.state.specs.declared.Facility.{Facility}
 use Rattle.state.specs.State.{put_opens, put_process}
