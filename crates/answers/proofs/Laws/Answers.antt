@@ -1,9 +1,9 @@
 -- What passes and what is combined.
-use Rattle.std.specs.Prelude.{◌≡◌, refl, true, false, Bool}
+use Rattle.std.specs.Prelude.{◌≡◌, refl, true, false, Bool, cond, ltb}
 use Rattle.std.proofs.Common.{sym}
 use Rattle.answers.specs.declared.Answer.{Answer}
 use Rattle.answers.specs.declared.Answer.TheVariants.{NotCared, Granted, NotGranted, Undefined}
-use Rattle.answers.specs.Answers.{is_not_granted, is_undefined, passes, combine, grant}
+use Rattle.answers.specs.Answers.{is_not_granted, is_undefined, passes, combine, grant, code}
 
 -- an answer passes exactly where it is neither not granted nor undefined
 pub neither_passes : (a : Answer) → is_not_granted a ≡ false → is_undefined a ≡ false → passes a ≡ true
@@ -53,3 +53,22 @@ combine_not_cared NotCared = refl
 combine_not_cared Granted = refl
 combine_not_cared NotGranted = refl
 combine_not_cared Undefined = refl
+
+-- the table's answer is the one with the larger number
+pub combine_larger : (a b : Answer) → cond (ltb (code a) (code b)) b a ≡ combine a b
+combine_larger NotCared NotCared = refl
+combine_larger NotCared Granted = refl
+combine_larger NotCared NotGranted = refl
+combine_larger NotCared Undefined = refl
+combine_larger Granted NotCared = refl
+combine_larger Granted Granted = refl
+combine_larger Granted NotGranted = refl
+combine_larger Granted Undefined = refl
+combine_larger NotGranted NotCared = refl
+combine_larger NotGranted Granted = refl
+combine_larger NotGranted NotGranted = refl
+combine_larger NotGranted Undefined = refl
+combine_larger Undefined NotCared = refl
+combine_larger Undefined Granted = refl
+combine_larger Undefined NotGranted = refl
+combine_larger Undefined Undefined = refl

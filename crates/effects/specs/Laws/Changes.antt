@@ -17,7 +17,7 @@ use Rattle.rules.specs.declared.View.{View}
 use Rattle.effects.specs.Changes.{change_by, change_in}
 
 pub after_is : (f : Facility) (c : Call) → changed f (change_by (number f c) (view_of f c) c) ≡ after f c
-unfolding change_by after accepted after_refusal effect_from
+unfolding change_by outcome_of after accepted after_refusal effect_from
 after_is f c =
     by_test (eqb (number f c) 0) (λ h. rw h) (λ h. rw h (by_test (denies (number f c)) (λ k. rw k) (λ k. rw k)))
 
