@@ -119,7 +119,7 @@ outcome_same : (f : Facility) (c : Call)
 unfolding comes_to outcome_by object_number late_number answers_by mac_answer_by mac_rule_by fc_answer_by sim_answer_by open_for room_for
 outcome_same f c = λ i. comes_to (request_in (view_of f c) c) (view_of f c) c (mac_same (action_of c.request) f c i) (ff_same f c i)
 
-asked_outcome : (f : Facility) (c : Call) (q : Request) (w : View) (o : Outcome) → q ≡ request_in (view_of f c) c → w ≡ view_asked f c
+pub asked_outcome : (f : Facility) (c : Call) (q : Request) (w : View) (o : Outcome) → q ≡ request_in (view_of f c) c → w ≡ view_asked f c
     → o ≡ outcome_by (later_number q w c) q w c
     → o ≡ outcome_by (later_number (request_in (view_of f c) c) (view_of f c) c) (request_in (view_of f c) c) (view_of f c) c
 asked_outcome f c q w o hq hw h =
@@ -130,7 +130,7 @@ pub asked_query : (f : Facility) (c : Call) (q : Request) (w : View) (o : Outcom
     → q ≡ request_in (view_of f c) c → w ≡ view_asked f c → o ≡ outcome_by (later_number q w c) q w c → o ≡ query f c
 asked_query f c q w o p hq hw h = query_later f c _ _ _ refl p refl (asked_outcome f c q w o hq hw h)
 
-asked_change : (f : Facility) (c : Call) (w : View) (o : Outcome) → w ≡ view_asked f c → change_in o w c ≡ change_in o (view_of f c) c
+pub asked_change : (f : Facility) (c : Call) (w : View) (o : Outcome) → w ≡ view_asked f c → change_in o w c ≡ change_in o (view_of f c) c
 asked_change f c w (Accepted a o) hw = ap (λ (x : View). change_of (action_of c.request) x c) hw ∙ change_same (action_of c.request) f c
 asked_change f c w (Denied a n) hw = ap (λ (x : View). CountRefusal x.caller.owner) hw
 asked_change f c w (Refused n) hw = refl

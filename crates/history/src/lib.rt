@@ -39,7 +39,8 @@ pub fn replay(setup: &[u8], calls: &[u8]) -> Facility
     ensures { result ≡ replayed setup.now calls.now }
 {
     let mut f = setup::read_setup(setup).facility;
-    for k in 0..calls.len() / CALL {
+    let whole = calls.len() / CALL;
+    for k in 0..whole {
         calls::enforce(&mut f, call_at(calls, CALL * k));
     }
     f

@@ -22,7 +22,7 @@ use Rattle.in_place.proofs.BytesOfParts.{byte_in}
 use Rattle.in_place.proofs.Stored.{before, put_back}
 
 -- the bytes from a place to another become 0
-cleared : List ℕ → ℕ → ℕ → List ℕ
+unfoldable pub cleared : List ℕ → ℕ → ℕ → List ℕ
 cleared s from to = build (length s) (λ i. cond (leb from i and ltb i to) 0 (at s i))
 
 -- the test of a number between two
@@ -37,7 +37,7 @@ above : (a b i : ℕ) → b ≤ i → (leb a i and ltb i b) ≡ false
 unfolding ◌and◌
 above a b i h = by_test (leb a i) (λ t. rw (t, le-ltb i b h)) (λ t. rw t)
 
-length_cleared : (s : List ℕ) (from to : ℕ) → length (cleared s from to) ≡ length s
+pub length_cleared : (s : List ℕ) (from to : ℕ) → length (cleared s from to) ≡ length s
 unfolding cleared
 length_cleared s from to = length_build (length s) _
 
@@ -46,7 +46,7 @@ unfolding cleared
 at_cleared s from to i h = at_build (length s) _ i h
 
 -- one after the other
-cleared_none : (s : List ℕ) (from : ℕ) → s ≡ cleared s from from
+pub cleared_none : (s : List ℕ) (from : ℕ) → s ≡ cleared s from from
 cleared_none s from =
     ext_get_or 0 s (cleared s from from) (sym (length_cleared s from from))
     (λ i h.
@@ -54,7 +54,7 @@ cleared_none s from =
     by_test (ltb i from) (λ t. below from from i (ltb-true i from t)) (λ t. above from from i (ltb-false i from t)) in
     sym (at_cleared s from from i h ∙ rw e))
 
-cleared_more : (s : List ℕ) (from i : ℕ) → from ≤ i → i < length s → set (cleared s from i) i 0 ≡ cleared s from (i + 1)
+pub cleared_more : (s : List ℕ) (from i : ℕ) → from ≤ i → i < length s → set (cleared s from i) i 0 ≡ cleared s from (i + 1)
 cleared_more s from i f h =
     let n = length_cleared s from i in
     ext_get_or 0 (set (cleared s from i) i 0) (cleared s from (i + 1)) (length-set (cleared s from i) i 0 ∙ n ∙ sym (length_cleared s from (i + 1)))

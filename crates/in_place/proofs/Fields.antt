@@ -141,6 +141,15 @@ becomes_unique s m n f a b p q =
     let t = and_field m n the_last_padding t last in
     sym (take_all whole_size m (omega arith)) ∙ t ∙ take_all whole_size n (omega arith)
 
+-- any opens are put where the opens stand
+pub opens_put : (s l : List ℕ) → length s ≡ whole_size → length l ≡ most_opens
+    → Becomes s (take (offset the_opens) s ++ (l ++ drop most_opens (drop (offset the_opens) s))) (put_opens (facility_at s) l)
+unfolding facility_at put_opens
+opens_put s l n e =
+    let m = put_back s l (offset the_opens) most_opens (sym e) (omega (arith, n)) in
+    let f = field_stored s _ l the_opens (omega (arith, n)) e m in
+    (ap (λ (z : ℕ → List ℕ). facility_of z) f, ap padding_in f)
+
 -- the opens are lent, and come back changed
 pub opens_lent : (g : List ℕ → List ℕ) (s l : List ℕ) (a k : ℕ) → ((o : List ℕ) → length (g o) ≡ length o) → a ≡ offset the_opens → k ≡ most_opens
     → length s ≡ whole_size → l ≡ g (take k (drop a s)) → Becomes s (take a s ++ (l ++ drop k (drop a s))) (put_opens (facility_at s) (g (facility_at s).opens))

@@ -4,7 +4,7 @@ ghost use Rattle.std.proofs.Common.{◌∙◌, ap};
 
 use crate::FacilityStore;
 use labels::Label;
-use state::{Facility, MOST_REFUSALS, OBJECTS, Object, Process, Switches, USERS, User};
+use state::{Facility, Object, Process, Switches, User};
 
 impl FacilityStore for Facility {
     ghost facility = { λ f. f };
@@ -73,29 +73,11 @@ impl FacilityStore for Facility {
     }
 
     fn add_user(&mut self, u: User) {
-        let i = self.users as usize;
-        if i < USERS {
-            self.clearances[i] = u.clearance.level;
-            self.roles[i] = u.role;
-            self.trusts[i] = u.trusted;
-            self.clearancesets[i] = u.clearance.set;
-            self.users += 1;
-        }
+        Facility::add_user(self, u);
     }
 
     fn add_object(&mut self, o: Object) {
-        let i = self.entered as usize;
-        if i < OBJECTS {
-            self.lives[i] = o.live;
-            self.kinds[i] = o.kind;
-            self.levels[i] = o.label.level;
-            self.categories[i] = o.category;
-            self.datatypes[i] = o.datatype;
-            self.flags[i] = o.flags;
-            self.parents[i] = o.parent;
-            self.sets[i] = o.label.set;
-            self.entered += 1;
-        }
+        Facility::add_object(self, o);
     }
 
     fn put_process(&mut self, p: u8, r: Process) {
@@ -123,10 +105,7 @@ impl FacilityStore for Facility {
     }
 
     fn count_refusal(&mut self, u: u8) {
-        let i = u as usize;
-        if i < USERS && self.refusals[i] < MOST_REFUSALS {
-            self.refusals[i] += 1;
-        }
+        Facility::count_refusal(self, u);
     }
 
     fn terminate(&mut self, p: u8) {

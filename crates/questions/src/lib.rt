@@ -1,12 +1,12 @@
 // The ordered questions: what a call comes to, by what it looks at.
 #![tactic(auto)]
 
-ghost use Rattle.std.specs.Prelude.{ℕ, ◌≡◌, cond};
+ghost use Rattle.std.specs.Prelude.{ℕ, ◌≡◌, cond, eqb};
 ghost use Rattle.questions.specs.Parts.{late_number, later_number, object_number, outcome_by, outcome_in, process_number};
 ghost use Rattle.modules.specs.Parts.{answers_by};
 ghost use Rattle.rules.specs.Questions.{in_range, is_free, is_running, runs_of, open_for, room_for};
 ghost use Rattle.rules.specs.Requests.{is_create, action_of};
-ghost use Rattle.labels.specs.Decisions.{asked};
+ghost use Rattle.labels.specs.Decisions.{asked, ◌and◌};
 ghost use Rattle.answers.specs.Outcomes.{asked_or, no_object};
 
 use answers::{Answer, Outcome, Refusal};
@@ -114,10 +114,10 @@ pub fn ask_process(runs: Runs, c: Call) -> Result<(), Refusal>
 }
 
 // The object number that an accepted create gives, 255 with every other call.
-fn object_given(k: Action, entered: u8) -> u8
-    ensures { result ≡ cond (is_create k) entered no_object }
+fn object_given(number: u8, k: Action, entered: u8) -> u8
+    ensures { result ≡ cond (eqb number 0 and is_create k) entered no_object }
 {
-    if requests::is_create(k) {
+    if (number == 0) & requests::is_create(k) {
         return entered;
     }
     answers::NO_OBJECT
@@ -133,9 +133,12 @@ fn judged(q: Request, v: View, c: Call) -> Outcome
     match ask_late(k, v, c, combined) {
         Ok(()) => Outcome::Accepted {
             answers,
-            object: object_given(k, v.entered),
+            object: object_given(0, k, v.entered),
         },
-        Err(refusal) => Outcome::of(refusal.number(), answers, answers::NO_OBJECT),
+        Err(refusal) => {
+            let number = refusal.number();
+            Outcome::of(number, answers, object_given(number, k, v.entered))
+        }
     }
 }
 

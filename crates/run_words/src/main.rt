@@ -2,7 +2,7 @@
 // case is the story of docs/LEVELS.md.
 #![tactic(auto)]
 
-ghost use Rattle.std.specs.Prelude.{◌+◌, ◌<◌, ◌^◌, ◌≡◌, IfSome};
+ghost use Rattle.std.specs.Prelude.{◌+◌, ◌<◌, ◌^◌, true, ◌≡◌, IfSome};
 ghost use Rattle.rules.specs.Histories.{run as Histories·run};
 ghost use Rattle.rules.specs.Lines.{calls_of};
 ghost use Rattle.run_words.specs.Turns.{Turn};
@@ -60,9 +60,11 @@ fn tell_block<R: Print + Eprint>(
     console::write_lines(rt, lines.stored()).all.then_some(f)
 }
 
-// Prints `short` where bytes are left over of so many; whether what there was to print was written.
-fn tell_short<R: Print + Eprint>(rt: &R, lined: usize) -> bool {
-    lined % 4 == 0 || console::write_lines(rt, b"short\n").all
+// Prints `short` where bytes are left over of so many, and all before it was written; whether all was.
+fn tell_short<R: Print + Eprint>(rt: &R, lined: usize, written: bool) -> bool
+    ensures { result ≡ true → written ≡ true }
+{
+    written && (lined % 4 == 0 || console::write_lines(rt, b"short\n").all)
 }
 
 // Reads calls, and prints those that are whole; at the end of the input `short`, where bytes are left over.
@@ -79,7 +81,7 @@ fn turn<R: std::io::Input + Print + Eprint>(
     let input = console::read_calls(rt, bytes, kept);
     let lined = input.lined;
     let told = tell_block(rt, f, done + 1, &bytes[..lined]);
-    let written = told.is_some() && !input.failed && tell_short(rt, lined);
+    let written = tell_short(rt, lined, told.is_some() && !input.failed);
     After {
         facility: told.unwrap_or(f),
         done: done + (lined as u64) / 4,

@@ -2,7 +2,8 @@
 #![tactic(auto)]
 
 ghost use Rattle.std.specs.Prelude.{◌≡◌};
-ghost use Rattle.state.specs.State.{all_off, blank, cloned, fresh_process, no_process, opened, process_of, put_process, terminated};
+ghost use Rattle.state.specs.State.{add_object, add_user, all_off, blank, changed, cloned, closed, counted, deleted, fresh_process, no_process};
+ghost use Rattle.state.specs.State.{marked, open_by, opened, process_of, put_process, terminated};
 
 use labels::Label;
 use opens::OpenChange;
@@ -275,14 +276,28 @@ impl Facility {
         self
     }
 
-    // Process p opens object t in the modes.
-    pub fn opened(mut self, p: u8, t: u8, modes: u8) -> Facility
-        ensures { result ≡ opened self p t modes }
+    // The marks of process p on object t change.
+    fn with_marked(mut self, p: u8, t: u8, change: OpenChange) -> Facility
+        ensures { result ≡ marked self p t change }
     {
         let i = opens::mark_place(p, t) as usize;
         let marks = labels::at(&self.opens, i);
-        labels::put(&mut self.opens, i, opens::add_modes(marks, modes));
+        labels::put(&mut self.opens, i, opens::marks_after(change, marks));
         self
+    }
+
+    // Process p opens object t in the modes.
+    pub fn opened(self, p: u8, t: u8, modes: u8) -> Facility
+        ensures { result ≡ opened self p t modes }
+    {
+        self.with_marked(p, t, OpenChange::Add(modes))
+    }
+
+    // Process p becomes r and closes object t.
+    pub fn closed(self, p: u8, r: Process, t: u8) -> Facility
+        ensures { result ≡ closed (put_process self p r) p t }
+    {
+        self.with_process(p, r).with_marked(p, t, OpenChange::Close)
     }
 
     // Process t becomes a clone of p.
@@ -302,5 +317,105 @@ impl Facility {
         let mut f = self.with_process(p, Process::none());
         opens::close_process(&mut f.opens, p);
         f
+    }
+
+    // Object t is deleted, with all opens on it.
+    pub fn deleted(mut self, t: u8) -> Facility
+        ensures { result ≡ deleted self t }
+    {
+        opens::close_object(&mut self.opens, t);
+        labels::put(&mut self.lives, t as usize, 0);
+        self
+    }
+
+    // The next object number is given to an object, where there is one; so with users. Each has one body: the store of a value calls it where the
+    // facility is, and the method by value hands the new state back.
+    pub fn add_object(&mut self, o: Object)
+        ensures { self.new ≡ add_object self.old o }
+    {
+        let i = self.entered as usize;
+        if i < OBJECTS {
+            self.lives[i] = o.live;
+            self.kinds[i] = o.kind;
+            self.levels[i] = o.label.level;
+            self.categories[i] = o.category;
+            self.datatypes[i] = o.datatype;
+            self.flags[i] = o.flags;
+            self.parents[i] = o.parent;
+            self.sets[i] = o.label.set;
+            self.entered += 1;
+        }
+    }
+
+    pub fn with_object(mut self, o: Object) -> Facility
+        ensures { result ≡ add_object self o }
+    {
+        self.add_object(o);
+        self
+    }
+
+    pub fn add_user(&mut self, u: User)
+        ensures { self.new ≡ add_user self.old u }
+    {
+        let i = self.users as usize;
+        if i < USERS {
+            self.clearances[i] = u.clearance.level;
+            self.roles[i] = u.role;
+            self.trusts[i] = u.trusted;
+            self.clearancesets[i] = u.clearance.set;
+            self.users += 1;
+        }
+    }
+
+    pub fn with_user(mut self, u: User) -> Facility
+        ensures { result ≡ add_user self u }
+    {
+        self.add_user(u);
+        self
+    }
+
+    // One more refusal of a user; at its stop the user's counter stays.
+    pub fn count_refusal(&mut self, u: u8)
+        ensures { self.new ≡ counted self.old u }
+    {
+        let i = u as usize;
+        if i < USERS && self.refusals[i] < MOST_REFUSALS {
+            self.refusals[i] += 1;
+        }
+    }
+
+    pub fn counted(mut self, u: u8) -> Facility
+        ensures { result ≡ counted self u }
+    {
+        self.count_refusal(u);
+        self
+    }
+
+    // What a request on an object does: process p becomes r, and the opens of object t change.
+    fn used(self, p: u8, r: Process, t: u8, opens: OpenChange) -> Facility
+        ensures { result ≡ open_by opens (put_process self p r) p t }
+    {
+        match opens {
+            OpenChange::Keep => self.with_process(p, r),
+            OpenChange::Add(modes) => self.with_process(p, r).opened(p, t, modes),
+            OpenChange::Close => self.closed(p, r, t),
+            OpenChange::CloseAll => self.with_process(p, r).deleted(t),
+        }
+    }
+
+    // The facility after a change.
+    pub fn changed(self, change: Change) -> Facility
+        ensures { result ≡ changed self change }
+    {
+        match change {
+            Change::NoChange => self,
+            Change::PutProcess { p, r } => self.with_process(p, r),
+            Change::CloneProcess { p, t } => self.cloned(p, t),
+            Change::EndProcess { p } => self.terminated(p),
+            Change::UseObject { p, r, t, opens } => self.used(p, r, t, opens),
+            Change::CreateObject { p, r, o } => self.with_process(p, r).with_object(o),
+            Change::EnterObject { o } => self.with_object(o),
+            Change::CountRefusal { u } => self.counted(u),
+        }
     }
 }

@@ -59,7 +59,9 @@ impl<'a> Out<'a> {
         }
         let start = self.place;
         let n = text.len().min(size - start);
-        self.bytes[start..start + n].copy_from_slice(&text[..n]);
+        for j in 0..n {
+            self.bytes[start + j] = text[j];
+        }
         self.place = start + n;
     }
 

@@ -1,6 +1,6 @@
 -- What passes and what is combined.
-use Rattle.std.specs.Prelude.{◌≡◌, refl, true, false, Bool, cond, ltb}
-use Rattle.std.proofs.Common.{sym}
+use Rattle.std.specs.Prelude.{◌<◌, ◌≤◌, ◌≡◌, refl, true, false, Bool, cond, ltb}
+use Rattle.std.proofs.Common.{sym, lt-ltb, le-ltb}
 use Rattle.answers.specs.declared.Answer.{Answer}
 use Rattle.answers.specs.declared.Answer.TheVariants.{NotCared, Granted, NotGranted, Undefined}
 use Rattle.answers.specs.Answers.{is_not_granted, is_undefined, passes, combine, grant, code}
@@ -72,3 +72,9 @@ combine_larger Undefined NotCared = refl
 combine_larger Undefined Granted = refl
 combine_larger Undefined NotGranted = refl
 combine_larger Undefined Undefined = refl
+
+pub combine_second : (a b : Answer) → code a < code b → b ≡ combine a b
+combine_second a b h = rw (lt-ltb (code a) (code b) h) at (combine_larger a b)
+
+pub combine_first : (a b : Answer) → code b ≤ code a → a ≡ combine a b
+combine_first a b h = rw (le-ltb (code a) (code b) h) at (combine_larger a b)

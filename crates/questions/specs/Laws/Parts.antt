@@ -136,3 +136,8 @@ pub refused_late : (q : Request) (v : View) (c : Call) (n m : ℕ) (a : Answers)
     → outcome_of m a no_object ≡ outcome_by n q v c
 unfolding outcome_by ◌and◌
 refused_late q v c n m a h e g = rw (← e, ne_eqb m 0 h) (ap (λ (x : Answers). outcome_of m x no_object) g)
+
+-- with another number than 0 an outcome has no object number
+pub object_left_out : (m o : ℕ) (a : Answers) → m ≢ 0 → outcome_of m a o ≡ outcome_of m a no_object
+unfolding outcome_of
+object_left_out m o a h = rw (ne_eqb m 0 h) refl

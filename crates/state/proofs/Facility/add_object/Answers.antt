@@ -1,7 +1,7 @@
 -- An object more, where there is room.
 use Rattle.std.proofs.Common.{lt-ltb, le-ltb}
 use Rattle.state.specs.State.{add_object, put_object}
-use Rattle.in_place.proofs.value.FacilityFacilityStore.add_object.Goals as goal
+use Rattle.state.proofs.Facility.add_object.Goals as goal
 
 pub returns-then-i-lt-OBJECTS : goal.returns-then-i-lt-OBJECTS
 unfolding add_object put_object

@@ -3,9 +3,9 @@ use Rattle.std.specs.Prelude.{◌≡◌, length}
 use Rattle.std.proofs.Common.{rules, lt-ltb, sym}
 use Rattle.state.specs.State.{counted, put_refusals, most_users}
 use Rattle.state.specs.Laws.ReadBack.{counted_none, counted_stays}
-use Rattle.in_place.proofs.value.FacilityFacilityStore.count_refusal.Goals as goal
-use Rattle.in_place.proofs.value.FacilityFacilityStore.count_refusal.Goals.{else-i-lt-USERS-via-then-i-lt-USERS+else-self-i-lt-MOST_REFUSALS}
-use Rattle.in_place.proofs.value.FacilityFacilityStore.count_refusal.Goals.{else-i-lt-USERS-via-else-i-lt-USERS}
+use Rattle.state.proofs.Facility.count_refusal.Goals as goal
+use Rattle.state.proofs.Facility.count_refusal.Goals.{else-i-lt-USERS-via-then-i-lt-USERS+else-self-i-lt-MOST_REFUSALS}
+use Rattle.state.proofs.Facility.count_refusal.Goals.{else-i-lt-USERS-via-else-i-lt-USERS}
 
 pub returns-then-self-i-lt-MOST_REFUSALS : goal.returns-then-self-i-lt-MOST_REFUSALS
 unfolding counted put_refusals

@@ -1,7 +1,7 @@
 -- A user more, where there is room.
 use Rattle.std.proofs.Common.{lt-ltb, le-ltb}
 use Rattle.state.specs.State.{add_user, put_user}
-use Rattle.in_place.proofs.value.FacilityFacilityStore.add_user.Goals as goal
+use Rattle.state.proofs.Facility.add_user.Goals as goal
 
 pub returns-then-i-lt-USERS : goal.returns-then-i-lt-USERS
 unfolding add_user put_user
