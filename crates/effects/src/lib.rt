@@ -13,7 +13,8 @@ pub const NO_REQUEST: u8 = requests::LAST + 1;
 fn first_flags(kind: u8) -> u8
     ensures { result ≡ first_flags kind }
 {
-    if requests::in_directory(kind) {
+    let inherits = requests::in_directory(kind);
+    if inherits {
         return flags::ADD_INHERITED;
     }
     0

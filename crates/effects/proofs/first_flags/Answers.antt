@@ -2,10 +2,10 @@
 use Rattle.rules.specs.Effects.{first_flags}
 use Rattle.effects.proofs.first_flags.Goals as goal
 
-pub returns-then-in_directory : goal.returns-then-in_directory
+pub returns-then-inherits : goal.returns-then-inherits
 unfolding first_flags
-returns-then-in_directory c = rw (← c.in_directory.ensures, c.if-in_directory.true)
+returns-then-inherits c = rw (← c.in_directory-inherits.ensures, c.if-inherits.true)
 
 pub returns : goal.returns
 unfolding first_flags
-returns c = rw (← c.in_directory.ensures, c.if-in_directory.false)
+returns c = rw (← c.in_directory-inherits.ensures, c.if-inherits.false)

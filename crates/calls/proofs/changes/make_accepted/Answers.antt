@@ -40,7 +40,7 @@ returns-in-17 g c =
 
 pub returns-in-18 : goal.returns-in-18
 unfolding action_of
-returns-in-18 g c = rw c.in-18.is c.terminate.ensures
+returns-in-18 g c = rw c.in-18.is c.end_process.ensures
 
 pub returns-in-21 : goal.returns-in-21
 unfolding action_of
@@ -58,9 +58,9 @@ returns-in_default g c =
     (sym c.open_change.ensures i)))
     c.use_object.ensures
 
-pub returns-else-c-lt21 : goal.returns-else-c-lt21
-returns-else-c-lt21 g c =
+pub returns-in-22-to-255 : goal.returns-in-22-to-255
+returns-in-22-to-255 g c =
     let a = c.args in
     let r = a.c.request in
     let k = is_unknown r (search rules) (search rules) (search rules) (search rules) (search rules) (search rules) (search rules) in
-    rw (ap (λ x. change_of x a.v a.c) k) (g.met.S.FacilityStore.unchanged c.args.s.now)
+    rw (ap (λ x. change_of x a.v a.c) k) c.end_process-in-22-to-255.ensures
