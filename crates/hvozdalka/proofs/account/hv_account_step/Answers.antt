@@ -1,4 +1,4 @@
--- A step of the account is the one of what the call became.
+-- The step is the one by `call_of c`.
 use Rattle.hvozdalka.proofs.account.hv_account_step.Goals as goal
 
 pub returns : goal.returns
